@@ -1,0 +1,3 @@
+pub mod Inverse
+pub mod Tests
+pub mod Variants

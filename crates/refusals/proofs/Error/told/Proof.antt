@@ -1,0 +1,16 @@
+-- `refusals::Error::told` meets its contract: the case that `row` names is the one at hand. Assumes nothing.
+use borrow.Author.Needs.{needs}
+use mathlib.Core.Path.{sym, ap, _∙_}
+use Rattle.refusals.specs.Refusal.{told, asTold}
+use Rattle.refusals.specs.declared.Error.{Error}
+use Rattle.refusals.proofs.Error.told.Statement.{statement}
+use Rattle.refusals.proofs.Error.told.Tie as tie
+
+row-requires : tie.Need-row-requires
+row-requires c κs = search needs
+
+returns : tie.Need-returns
+returns c = c .row .ensures .1 ∙ ap (λ (e : Error). asTold (told e)) (sym (c .row .ensures .0))
+
+pub told-spec : {M : Type 1} → statement M
+told-spec = tie.close (tie.spec row-requires returns)

@@ -1,0 +1,90 @@
+-- The numbers that a call can refuse with, and the figures named with them: the table, one line a refusal.
+-- Assumes nothing.
+use Prim.Native.Nat.{ℕ, _-_}
+use mathlib.Core.Bool.{Bool, true, false}
+use mathlib.Core.List.{List, [], _∷_}
+use lib.ListN.{length, getD}
+use lib.IntN.{ℤ, pos}
+use Rattle.signed.specs.Numbers.{asU32}
+use Rattle.units.specs.declared.MilliVolts.{MilliVolts}
+use Rattle.refusals.specs.declared.Error.{Error}
+use Rattle.refusals.specs.declared.Error.the-variants as E
+use Rattle.refusals.specs.declared.Told.{Told}
+
+pub record Refusal : Type 0 where
+  pub number : ℕ
+  pub figures : List ℤ
+
+abbrev pub no : ℕ → List ℤ → Refusal
+no n fs = record { number = n; figures = fs }
+
+-- what a call answers: a value, or a refusal
+pub data Answer (A : Type 0) : Type 0 where
+  value : A → Answer A
+  refused : Refusal → Answer A
+
+-- a refusal without figures where a test holds, and else what follows
+abbrev pub refusedIf : {A : Type 0} → Bool → ℕ → Answer A → Answer A
+refusedIf true n answer = refused (no n [])
+refusedIf false n answer = answer
+
+abbrev pub told : Error → Refusal
+told E.CRCMismatch = no 1 []
+told E.I2CError = no 2 []
+told E.BufTooLarge = no 3 []
+told E.Uninitialized = no 4 []
+told (E.VerifyError reg) = no 5 (pos reg ∷ [])
+told E.OCDSCDRangeMismatch = no 6 []
+told (E.UVThresholdUnobtainable low high) = no 7 (pos (low .0) ∷ pos (high .0) ∷ [])
+told (E.OVThresholdUnobtainable low high) = no 8 (pos (low .0) ∷ pos (high .0) ∷ [])
+told E.BadDevice = no 9 []
+told E.BadCellCount = no 10 []
+told E.BadAddress = no 11 []
+told E.BadShunt = no 12 []
+told E.CurrentTooLarge = no 13 []
+told E.RegisterRunsOut = no 14 []
+told E.BadTape = no 15 []
+told E.TapeEnded = no 16 []
+told E.LogFull = no 17 []
+told E.UnknownFlags = no 18 []
+told E.NoRoom = no 19 []
+told E.UnknownRange = no 20 []
+
+-- the same as the code hands it on: the count of the figures, and zero for one that is not there
+abbrev pub asTold : Refusal → Told
+asTold r = record {
+  0 = r .number;
+  1 = length (r .figures);
+  2 = asU32 (getD (r .figures) 0 (pos 0));
+  3 = asU32 (getD (r .figures) 1 (pos 0));
+}
+
+-- the table read from the number's side: the case with a number and figures
+abbrev pub cases : ℕ → ℕ → List Error
+cases first second =
+    let low : MilliVolts = record { 0 = first } in
+    let high : MilliVolts = record { 0 = second } in
+    E.CRCMismatch ∷
+    E.I2CError ∷
+    E.BufTooLarge ∷
+    E.Uninitialized ∷
+    E.VerifyError first ∷
+    E.OCDSCDRangeMismatch ∷
+    E.UVThresholdUnobtainable low high ∷
+    E.OVThresholdUnobtainable low high ∷
+    E.BadDevice ∷
+    E.BadCellCount ∷
+    E.BadAddress ∷
+    E.BadShunt ∷
+    E.CurrentTooLarge ∷
+    E.RegisterRunsOut ∷
+    E.BadTape ∷
+    E.TapeEnded ∷
+    E.LogFull ∷
+    E.UnknownFlags ∷
+    E.NoRoom ∷
+    E.UnknownRange ∷
+    []
+
+abbrev pub caseOf : Told → Error
+caseOf t = getD (cases (t .2) (t .3)) (t .0 - 1) E.CRCMismatch
