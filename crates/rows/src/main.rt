@@ -83,10 +83,29 @@ fn current() {
     print::signed_row(b"counter FFFF, 1000 uOhm: mA", flow.0, -8);
 }
 
+fn check_bytes() {
+    print::row(
+        b"check byte of 01",
+        check_byte::check_byte1(0x01) as u32,
+        0x07,
+    );
+    print::row(
+        b"check byte of 123456789, as text",
+        check_byte::check_byte(b"123456789") as u32,
+        0xF4,
+    );
+    print::row(
+        b"check byte of nothing",
+        check_byte::check_byte(b"") as u32,
+        0x00,
+    );
+}
+
 fn main() {
     calibration();
     readings();
     trip_codes();
     limits();
     current();
+    check_bytes();
 }

@@ -1,0 +1,10 @@
+pub mod Caught
+pub mod Division
+pub mod Leaves
+pub mod LongDivision
+pub mod Message
+pub mod Noticed
+pub mod Product
+pub mod Vectors
+pub mod Xor
+pub mod Zeros

@@ -1,0 +1,80 @@
+-- `check_byte::check_byte` meets its contract. The loop's invariant: `crc` is the check byte of the bytes passed.
+-- Assumes nothing.
+use mathlib.Core.Path.{_≡_, refl, _∙_, ap}
+use mathlib.Core.List.{[], _∷_, _++_}
+use Prim.Native.Nat.{_+_, _-_, _≤_, _<_}
+use native.Mathlib.Numerals.{add-one}
+use native.Mathlib.Omega.{arith}
+use lib.ListN.{length, take, getD}
+use lib.Seq.{take-suc, take-all}
+use borrow.Author.Needs.{needs}
+use denote.Ref.{now}
+use Rattle.check_byte.specs.CheckByte.{divide, number, checkByte}
+use Rattle.check_byte.proofs.Leaves.{Leaves, known, more}
+use Rattle.check_byte.proofs.check_byte.Statement.{statement}
+use Rattle.check_byte.proofs.check_byte.Tie as tie
+
+abbrev Inv-loop : tie.InvT-loop
+Inv-loop «data» crc₀ i₀ crc i = (i ≤ length «data») × (crc < 256) × (crc ≡ checkByte (take i «data»))
+
+abbrev μ-loop : tie.MeasureT-loop
+μ-loop «data» crc₀ i₀ crc i = length «data» - i
+
+loop-holds : tie.Need-loop-holds Inv-loop μ-loop
+unfolding checkByte divide number
+loop-holds c = (search needs, search needs, refl)
+
+cast-more : tie.Need-cast-more Inv-loop μ-loop
+cast-more c = search needs
+
+shared-slice-read-more : tie.Need-shared-slice-read-more Inv-loop μ-loop
+shared-slice-read-more c = search needs
+
+more-requires : tie.Need-more-requires Inv-loop μ-loop
+more-requires c κs = search needs
+
+-- the byte at i is taken in
+taken : (c : tie.After-more Inv-loop μ-loop)
+    → let m = c .before .before .before .before .before .args .«data» .now in
+    let i = c .before .before .before .loop .i in
+    Leaves 10 (take i m ++ getD m i 0 ∷ []) (c .more .result)
+taken c =
+    more 8 _ (omega arith) (omega arith)
+    (c .before .shared-slice-known2 .given (c .before .before .before .loop .i) .fits)
+    (known (c .before .before .before .loop .inv .1) (c .before .before .before .loop .inv .2))
+    (c .more .ensures)
+
+left-requires : tie.Need-left-requires Inv-loop μ-loop
+left-requires c κs = omega (arith, taken c .small)
+
+add-i : tie.Need-add-i Inv-loop μ-loop
+add-i c = search needs
+
+loop-less : tie.Need-loop-less Inv-loop μ-loop
+loop-less c = search needs
+
+loop-again : tie.Need-loop-again Inv-loop μ-loop
+loop-again c =
+    let m = c .before .before .before .before .before .before .args .«data» .now in
+    let i = c .before .before .before .before .loop .i in
+    let h : i < length m = search needs in
+    (search needs, search needs, c .left .ensures ∙ taken (c .before) .left ∙ ap checkByte (rw (add-one, take-suc m i 0)))
+
+returns : tie.Need-returns Inv-loop μ-loop
+returns c = c .before .loop .inv .2 ∙ ap checkByte (take-all (c .before .loop .i) (now (c .before .before .before .args .«data»)) (search needs))
+
+pub check-byte-spec : {M : Type 1} → statement M
+check-byte-spec =
+    tie.close
+    (tie.spec
+    Inv-loop
+    μ-loop
+    loop-holds
+    cast-more
+    shared-slice-read-more
+    more-requires
+    left-requires
+    add-i
+    loop-less
+    loop-again
+    returns)
