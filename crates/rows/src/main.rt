@@ -83,22 +83,18 @@ fn current() {
     print::signed_row(b"counter FFFF, 1000 uOhm: mA", flow.0, -8);
 }
 
+// The published table's entries and check value.
 fn check_bytes() {
-    print::row(
-        b"check byte of 01",
-        check_byte::check_byte1(0x01) as u32,
-        0x07,
-    );
-    print::row(
-        b"check byte of 123456789, as text",
-        check_byte::check_byte(b"123456789") as u32,
-        0xF4,
-    );
-    print::row(
-        b"check byte of nothing",
-        check_byte::check_byte(b"") as u32,
-        0x00,
-    );
+    let one = check_byte::check_byte1(0x01);
+    print::row(b"check byte of 01", one as u32, 0x07);
+    let high = check_byte::check_byte1(0x80);
+    print::row(b"check byte of 80", high as u32, 0x89);
+    let ones = check_byte::check_byte1(0xFF);
+    print::row(b"check byte of FF", ones as u32, 0xF3);
+    let digits = check_byte::check_byte(b"123456789");
+    print::row(b"check byte of the text 123456789", digits as u32, 0xF4);
+    let none = check_byte::check_byte(b"");
+    print::row(b"check byte of nothing", none as u32, 0x00);
 }
 
 fn main() {
