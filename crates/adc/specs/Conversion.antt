@@ -22,6 +22,6 @@ abbrev pub milliamperes : ℤ → ℕ → Answer ℤ
 milliamperes count shunt =
     refusedIf (eqb shunt 0 || ltb 2147483647 shunt) 12 (value ((count *ℤ pos 8440) ÷ shunt))
 
-abbrev pub currentTold : CurrentAnswer → Answer ℤ
-currentTold (Flows current) = value (current .0)
-currentTold (Refused e) = refused (told e)
+abbrev pub asCurrent : CurrentAnswer → Answer ℤ
+asCurrent (Flows current) = value (current .0)
+asCurrent (Refused e) = refused (told e)

@@ -33,6 +33,6 @@ askedReading gain offset asked = refusedIf (eqb gain 0) 9 (value (((pos asked -�
 abbrev pub tripCode : ℤ → ℕ
 tripCode reading = reading ÷↓ 16 %↓ 256
 
-abbrev pub askedTold : Asked → Answer ℤ
-askedTold (Reading reading) = value reading
-askedTold (Refused e) = refused (told e)
+abbrev pub asAsked : Asked → Answer ℤ
+asAsked (Reading reading) = value reading
+asAsked (Refused e) = refused (told e)

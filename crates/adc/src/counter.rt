@@ -1,6 +1,6 @@
 // The coulomb counter's reading as a current.
 ghost use mathlib.Core.Path.{_≡_};
-ghost use Rattle.adc.specs.Conversion.{milliamperes, currentTold};
+ghost use Rattle.adc.specs.Conversion.{milliamperes, asCurrent};
 use refusals::Error;
 use units::MicroOhms;
 use units::MilliAmperes;
@@ -11,7 +11,7 @@ pub enum CurrentAnswer {
 }
 
 pub fn current(cc: i16, shunt: MicroOhms) -> CurrentAnswer
-    ensures { λ r. ⌜ currentTold r ≡ milliamperes cc (shunt .0) ⌝ }
+    ensures { λ r. ⌜ asCurrent r ≡ milliamperes cc (shunt .0) ⌝ }
 {
     let shunt = shunt.0;
     if shunt == 0 {

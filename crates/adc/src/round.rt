@@ -3,12 +3,12 @@ ghost use mathlib.Core.Path.{_≡_};
 ghost use Prim.Native.Nat.{_<_};
 ghost use Rattle.signed.specs.Numbers.{_÷↓_, _%↓_};
 
-pub struct Floor {
+pub(crate) struct Floor {
     pub quotient: i64,
     pub remainder: u16,
 }
 
-pub fn floor_div(z: i64, d: u16) -> Floor
+pub(crate) fn floor_div(z: i64, d: u16) -> Floor
     requires { ⌜ 0 < d ⌝ }
     ensures { λ r. ⌜ (r .quotient ≡ z ÷↓ d) × (r .remainder ≡ z %↓ d) ⌝ }
 {

@@ -5,7 +5,7 @@ ghost use lib.IntN.{pos, _+ℤ_, _*ℤ_};
 ghost use Rattle.signed.specs.Numbers.{_÷_, asU32};
 ghost use Rattle.adc.specs.Registers.{calibration};
 ghost use Rattle.adc.specs.Conversion.{millivolts, packMillivolts};
-ghost use Rattle.adc.specs.Trips.{ovTrip, uvTrip, limits, askedReading, askedTold};
+ghost use Rattle.adc.specs.Trips.{ovTrip, uvTrip, limits, askedReading, asAsked};
 use crate::round;
 use refusals::Error;
 use units::MilliVolts;
@@ -96,7 +96,7 @@ impl AdcTransferFunction {
 
     // The reading at which the converter shows an asked voltage, rounded down.
     pub fn asked_reading(self, asked: MilliVolts) -> Asked
-        ensures { λ r. ⌜ askedTold r ≡ askedReading (self .gain) (self .offset) (asked .0) ⌝ }
+        ensures { λ r. ⌜ asAsked r ≡ askedReading (self .gain) (self .offset) (asked .0) ⌝ }
     {
         let gain = self.gain;
         if gain == 0 {

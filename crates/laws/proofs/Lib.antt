@@ -1,3 +1,4 @@
 pub mod Inverse
+pub mod Keys
 pub mod Tests
 pub mod Variants

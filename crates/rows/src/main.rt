@@ -6,6 +6,14 @@ use adc::counter::CurrentAnswer;
 use adc::transfer::AdcTransferFunction;
 use adc::transfer::Asked;
 use adc::trips;
+use protection::ocd::OCDThreshold;
+use protection::range;
+use protection::range::Code;
+use protection::range::OCDSCDRange;
+use protection::range::RangeAnswer;
+use protection::scd::SCDStep;
+use protection::scd::SCDThreshold;
+use units::Amperes;
 use units::MicroOhms;
 use units::MilliVolts;
 
@@ -83,6 +91,43 @@ fn current() {
     print::signed_row(b"counter FFFF, 1000 uOhm: mA", flow.0, -8);
 }
 
+// The SCD step for a current at 1000 uOhm, in millivolts, or the refusal's number.
+fn scd(amperes: u32) -> u32 {
+    match SCDThreshold::from_current(Amperes(amperes), MicroOhms(1000)) {
+        SCDStep::Step(step) => step.mv() as u32,
+        SCDStep::Refused(e) => e.number() as u32,
+    }
+}
+
+// A code, or the refusal's number.
+fn bits(code: Code) -> u32 {
+    match code {
+        Code::Bits(bits) => bits as u32,
+        Code::Refused(e) => e.number() as u32,
+    }
+}
+
+// The range's bit for steps of so many millivolts, 0 lower and 128 upper, or the refusal's number.
+fn range_bit(scd: SCDThreshold, ocd: OCDThreshold) -> u32 {
+    match range::range_to_use(scd.range(), ocd.range()) {
+        RangeAnswer::Use(used) => bits(used.bits()),
+        RangeAnswer::Refused(e) => e.number() as u32,
+    }
+}
+
+fn steps() {
+    print::row(b"SCD 255 A at 1000 uOhm: mV", scd(255), 200);
+    print::row(b"SCD 256 A: refused", scd(256), 13);
+    let mismatch = range_bit(SCDThreshold::from_mv(100), OCDThreshold::from_mv(55));
+    print::row(b"SCD 100, OCD 55 A: refused", mismatch, 6);
+    let both = range_bit(SCDThreshold::from_mv(44), OCDThreshold::from_mv(44));
+    print::row(b"SCD 44, OCD 44 A: range", both, 0);
+    let scd_code = SCDThreshold::from_mv(44).bits(OCDSCDRange::Lower);
+    print::row(b"  SCD code", bits(scd_code), 0x2);
+    let ocd_code = OCDThreshold::from_mv(44).bits(OCDSCDRange::Lower);
+    print::row(b"  OCD code", bits(ocd_code), 0xD);
+}
+
 // The published table's entries and check value.
 fn check_bytes() {
     let one = check_byte::check_byte1(0x01);
@@ -102,6 +147,7 @@ fn main() {
     readings();
     trip_codes();
     limits();
+    steps();
     current();
     check_bytes();
 }
