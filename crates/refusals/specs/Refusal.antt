@@ -23,6 +23,11 @@ pub data Answer (A : Type 0) : Type 0 where
   value : A → Answer A
   refused : Refusal → Answer A
 
+-- an answer with another value in its value's place
+abbrev pub answering : {A B : Type 0} → Answer A → B → Answer B
+answering (value a) b = value b
+answering (refused r) b = refused r
+
 -- a refusal without figures where a test holds, and else what follows
 abbrev pub refusedIf : {A : Type 0} → Bool → ℕ → Answer A → Answer A
 refusedIf true n answer = refused (no n [])

@@ -1,0 +1,132 @@
+-- The decoders undo the encoders: a field, a transfer's field in the log, an outcome's field on the tape, and a whole log; and a field that was decoded is its encoding.
+-- A length is two bytes, so each holds below 65536.
+-- Assumes nothing.
+use mathlib.Core.Path.{_≡_, refl, ap, _∙_, subst}
+use mathlib.Core.Bool.{Bool, true, false}
+use mathlib.Core.List.{List, [], _∷_, _++_, map}
+use mathlib.Core.Option.{Option, none, some, bind, Option·map, Option·some-injective, Option·none-ne-some}
+use Prim.Native.Nat.{ℕ, suc, zero, _/_, _%_, _≤_, _<_}
+use native.Mathlib.Omega.{arith}
+use lib.ListN.{length, take, drop, getD, length-append, take-append-drop}
+use lib.Seq.{take-at, drop-at, length-take-le}
+use lib.Dec.{leb}
+use borrow.Author.Tests.{le-leb, leb-true, eq-eqb}
+use Rattle.signed.specs.Numbers.{word}
+use Rattle.bus.specs.Fields.{if_then_else_, field, Field, unfield}
+use Rattle.bus.specs.Decoders.{unlog}
+use Rattle.bus.specs.Transfers.{Transfer, write, read, Outcome, done, fault, stopped, logField, tapeField, untape, says}
+use Rattle.bus.proofs.Framed.{Made, logged}
+
+-- ---- a field
+
+-- a number's two bytes, high first
+two-bytes : (n : ℕ) → n < 65536 → word (n / 256 % 256) (n % 256) ≡ n
+two-bytes n h = omega arith
+
+abbrev pub fieldOf : ℕ → List ℕ → List ℕ → Field
+fieldOf tag value rest = record { tag = tag; value = value; rest = rest }
+
+pub unfield-field : (tag : ℕ) (value rest : List ℕ) → length value < 65536
+    → unfield (field tag value ++ rest) ≡ some (fieldOf tag value rest)
+unfolding field unfield
+unfield-field tag value rest h =
+    let k : length value ≤ length (value ++ rest) = simp length-append (omega arith) in
+    rw (two-bytes (length value) h, le-leb _ _ k, take-at value rest _ refl, drop-at value rest _ refl)
+
+-- these bytes are this field and its rest
+pub record Whole (bytes : List ℕ) (f : Field) : Type 0 where
+  pub is : bytes ≡ field (f .tag) (f .value) ++ f .rest
+  pub short : length (f .value) < 65536
+
+module _ (tag high low : ℕ) (bytes : List ℕ) (h : high < 256) (l : low < 256) where
+  whole : word high low ≤ length bytes → Whole (tag ∷ high ∷ low ∷ bytes) (fieldOf tag (take (word high low) bytes) (drop (word high low) bytes))
+  unfolding field
+  whole k =
+      let size = length-take-le (word high low) bytes k in
+      let up : word high low / 256 % 256 ≡ high = omega arith in
+      let down : word high low % 256 ≡ low = omega arith in
+      record { is = rw (size, up, down, take-append-drop); short = omega (arith, size) }
+
+  whole-if : (f : Field) (c : Bool) → leb (word high low) (length bytes) ≡ c
+      → (if c then some (fieldOf tag (take (word high low) bytes) (drop (word high low) bytes)) else none) ≡ some f
+      → Whole (tag ∷ high ∷ low ∷ bytes) f
+  whole-if f true e q = subst (Whole (tag ∷ high ∷ low ∷ bytes)) (Option·some-injective _ _ q) (whole (leb-true _ _ e))
+  whole-if f false e q = absurd (Option·none-ne-some _ q)
+
+-- the other way, where the two bytes of the length are bytes
+pub field-unfield : (bytes : List ℕ) (f : Field) → unfield bytes ≡ some f → getD bytes 1 0 < 256 → getD bytes 2 0 < 256 → Whole bytes f
+unfolding unfield
+field-unfield [] f e h l = absurd (Option·none-ne-some _ e)
+field-unfield (tag ∷ []) f e h l = absurd (Option·none-ne-some _ e)
+field-unfield (tag ∷ high ∷ []) f e h l = absurd (Option·none-ne-some _ e)
+field-unfield (tag ∷ high ∷ low ∷ bytes) f e h l = whole-if tag high low bytes h l f _ refl e
+
+-- ---- a transfer in the log
+
+-- what its field can hold: so many bytes sent, or such a count
+abbrev pub Short : Transfer → Type 0
+Short (write address bytes) = length (address ∷ bytes) < 65536
+Short (read address reg count) = count < 65536
+
+pub unlog-log : (t : Transfer) (rest : List ℕ) → Short t
+    → (f : Field) × (unfield (logField t ++ rest) ≡ some f) × (f .rest ≡ rest) × (unlog f ≡ some t)
+unfolding logField unlog
+unlog-log (write address bytes) rest h = (_, unfield-field 0x11 (address ∷ bytes) rest h, refl, rw (le-leb 1 (suc (length bytes)) (omega arith)))
+unlog-log (read address reg count) rest h = (_, unfield-field 0x12 (address ∷ reg ∷ count / 256 % 256 ∷ count % 256 ∷ []) rest (omega arith), refl, rw (two-bytes count h))
+
+-- ---- an outcome on the tape
+
+-- what its field can hold and a transfer that wants n bytes takes
+abbrev pub Fitting : ℕ → Outcome → Type 0
+Fitting n (done bytes) = (length bytes ≡ n) × (length bytes < 65536)
+Fitting n (fault bytes) = (length bytes ≤ n) × (length bytes < 65536)
+Fitting n (stopped r) = ⊥
+
+says-field : (n tag : ℕ) (value rest : List ℕ) → length value < 65536
+    → says n (field tag value ++ rest) ≡ untape n (some (fieldOf tag value rest))
+unfolding says field
+says-field n tag value rest h = ap (untape n) (unfield-field tag value rest h)
+
+pub says-tape : (n : ℕ) (o : Outcome) (rest : List ℕ) → Fitting n o → says n (tapeField o ++ rest) ≡ o
+unfolding tapeField untape
+says-tape n (done bytes) rest f = says-field n _ bytes rest (f .1) ∙ rw (eq-eqb _ _ (f .0))
+says-tape n (fault bytes) rest f = says-field n _ bytes rest (f .1) ∙ rw (le-leb _ _ (f .0))
+says-tape n (stopped r) rest f = absurd f
+
+-- ---- a whole log
+
+-- the transfers whose fields these bytes are, in order, in at most so many steps; none where they are no such fields
+unfoldable pub transfersIn : ℕ → List ℕ → Option (List Transfer)
+transfersIn zero [] = some []
+transfersIn zero (x ∷ bytes) = none
+transfersIn (suc n) [] = some []
+transfersIn (suc n) (x ∷ bytes) =
+    bind (unfield (x ∷ bytes)) λ f.
+    bind (unlog f) λ t.
+    Option·map (λ (ts : List Transfer). t ∷ ts) (transfersIn n (f .rest))
+
+abbrev pub AllShort : List Made → Type 0
+AllShort [] = Unit
+AllShort (m ∷ h) = Short (m .0) × AllShort h
+
+first-in : (n : ℕ) (bytes : List ℕ) (f : Field) (t : Transfer) → unfield bytes ≡ some f → unlog f ≡ some t
+    → transfersIn (suc n) bytes ≡ Option·map (λ (ts : List Transfer). t ∷ ts) (transfersIn n (f .rest))
+unfolding transfersIn bind unfield
+first-in n [] f t e q = absurd (Option·none-ne-some _ e)
+first-in n (x ∷ bytes) f t e q = rw (e, q)
+
+-- no field is empty
+fewer : (t : Transfer) (o : Outcome) (h : List Made) → length (logged h) < length (logged ((t, o) ∷ h))
+unfolding logged logField field
+fewer (write address bytes) o h = simp length-append (omega arith)
+fewer (read address reg count) o h = omega arith
+
+-- as many steps as bytes suffice
+pub transfers-logged : (h : List Made) (n : ℕ) → AllShort h → length (logged h) ≤ n → transfersIn n (logged h) ≡ some (map (λ m. m .0) h)
+unfolding transfersIn logged
+transfers-logged [] zero s k = refl
+transfers-logged [] (suc n) s k = refl
+transfers-logged (m ∷ h) zero s k = absurd (omega (arith, fewer (m .0) (m .1) h))
+transfers-logged (m ∷ h) (suc n) s k =
+    let u = unlog-log (m .0) (logged h) (s .0) in
+    first-in n _ (u .0) (m .0) (u .1) (u .3) ∙ rw (u .2, transfers-logged h n (s .1) (omega (arith, fewer (m .0) (m .1) h)))

@@ -1,0 +1,10 @@
+pub mod Agree
+pub mod Decoders
+pub mod Example
+pub mod Fields
+pub mod Framed
+pub mod Heard
+pub mod Moves
+pub mod Programs
+pub mod Raws
+pub mod Reading

@@ -1,0 +1,71 @@
+-- The frames' lengths and bytes, and what is taken out of a read's again.
+-- Assumes nothing.
+use mathlib.Core.Path.{_≡_}
+use mathlib.Core.Bool.{Bool, true, false, cond}
+use mathlib.Core.List.{List, [], _∷_}
+use Prim.Native.Nat.{ℕ, _+_, _*_, _^_, _≤_, _<_}
+use native.Mathlib.Omega.{arith}
+use lib.ListN.{length, take}
+use lib.Seq.{take-all}
+use borrow.Author.Tests.{le-leb, lt-leb}
+use Rattle.check_byte.specs.CheckByte.{Bytes}
+use Rattle.frames.specs.Frames.{writeByte, readByte, dataOf, framed, writeFrame, readFrame, written}
+use Rattle.frames.specs.Put.{put}
+use Rattle.frames.proofs.Put.{put-all}
+use Rattle.frames.proofs.Checked.{length-checked, data-checked, bytes-checked}
+
+length-framed : (check : Bool) (before bytes : List ℕ) → length (framed check before bytes) ≡ cond check 2 1 * length bytes
+unfolding framed
+length-framed true before bytes = length-checked before bytes
+length-framed false before bytes = omega arith
+
+pub length-writeFrame : (check : Bool) (address reg : ℕ) (bytes : List ℕ)
+    → length (writeFrame check address reg bytes) ≡ cond check 2 1 * length bytes + 1
+unfolding writeFrame
+length-writeFrame check address reg bytes = omega (arith, length-framed check (writeByte address ∷ reg ∷ []) bytes)
+
+pub length-readFrame : (check : Bool) (address : ℕ) (bytes : List ℕ) → length (readFrame check address bytes) ≡ cond check 2 1 * length bytes
+unfolding readFrame
+length-readFrame check address bytes = length-framed check (readByte address ∷ []) bytes
+
+-- up to eight bytes, and over eight
+pub written-frame : (check : Bool) (address reg : ℕ) (bytes : List ℕ) → length bytes ≤ 8
+    → written check address reg bytes ≡ writeFrame check address reg bytes
+unfolding written
+written-frame check address reg bytes h = rw (le-leb (length bytes) 8 h)
+
+pub written-none : (check : Bool) (address reg : ℕ) (bytes : List ℕ) → 8 < length bytes → written check address reg bytes ≡ []
+unfolding written
+written-none check address reg bytes h = rw (lt-leb (length bytes) 8 h)
+
+-- what is taken out of the frame of a read is what was read
+pub read-back : (address : ℕ) (bytes out : List ℕ) → length out ≡ length bytes
+    → put out 0 (take (length out) (dataOf (readFrame true address bytes))) ≡ bytes
+unfolding readFrame framed
+read-back address bytes out e =
+    let fits : length bytes ≤ length out = omega arith in
+    let fills : length out ≤ length bytes = omega arith in
+    rw (data-checked, take-all (length out) bytes fits, put-all out bytes fills)
+
+-- of bytes, bytes
+pub writeByte-lt : (address : ℕ) → writeByte address < 2 ^ 8
+unfolding writeByte
+writeByte-lt address = omega arith
+
+pub readByte-lt : (address : ℕ) → readByte address < 2 ^ 8
+unfolding readByte
+readByte-lt address = omega arith
+
+bytes-framed : (check : Bool) (before bytes : List ℕ) → Bytes before → Bytes bytes → Bytes (framed check before bytes)
+unfolding framed
+bytes-framed true before bytes b h = bytes-checked before bytes b h
+bytes-framed false before bytes b h = h
+
+pub bytes-writeFrame : (check : Bool) (address reg : ℕ) (bytes : List ℕ) → reg < 2 ^ 8 → Bytes bytes → Bytes (writeFrame check address reg bytes)
+unfolding writeFrame
+bytes-writeFrame check address reg bytes r h =
+    (r, bytes-framed check (writeByte address ∷ reg ∷ []) bytes (writeByte-lt address, (r, tt)) h)
+
+pub bytes-readFrame : (check : Bool) (address : ℕ) (bytes : List ℕ) → Bytes bytes → Bytes (readFrame check address bytes)
+unfolding readFrame
+bytes-readFrame check address bytes h = bytes-framed check (readByte address ∷ []) bytes (readByte-lt address, tt) h
