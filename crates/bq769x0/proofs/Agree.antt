@@ -1,0 +1,98 @@
+-- Two outcomes that meet one promise agree: in the answer, the record, the tape's and the log's position, and the log's bytes.
+-- `read_raw` and `write_raw` have the bus's promise, of which the bus's `read-agree` and `write-agree` speak, whatever the program.
+-- Assumes nothing.
+use mathlib.Core.Path.{_≡_, refl, sym, ap, _∙_}
+use Prim.Native.Nat.{ℕ}
+use mathlib.Core.List.{List}
+use Rattle.laws.proofs.Inverse.{one-to-one}
+use Rattle.refusals.specs.Refusal.{Answer}
+use Rattle.refusals.proofs.Telling.{answerBack, untold-told}
+use Rattle.settings.specs.Plan.{Values}
+use Rattle.settings.specs.declared.CalculatedValues.{CalculatedValues}
+use Rattle.bus.specs.Transfers.{Bus}
+use Rattle.bus.specs.Programs.{Prog, Ran, ran, onTape}
+use Rattle.bus.specs.Raw.{Done, asRaw}
+use Rattle.bus.specs.declared.Cursor.{Cursor}
+use Rattle.bus.proofs.Agree.{raw-agree}
+use Rattle.bq769x0.specs.Record.{Left, leaves, asMade, asNew}
+use Rattle.bq769x0.specs.Init.{asInit}
+use Rattle.bq769x0.specs.declared.BQ769x0.{BQ769x0}
+use Rattle.bq769x0.specs.declared.record.New.{New}
+use Rattle.bq769x0.specs.declared.record.NewAnswer.{NewAnswer}
+use Rattle.bq769x0.specs.declared.record.NewAnswer.the-variants as N
+use Rattle.bq769x0.specs.declared.calibrate.Calibrated.{Calibrated}
+use Rattle.bq769x0.specs.declared.setting.Init.{Init}
+use Rattle.bq769x0.specs.declared.setting.InitAnswer.{InitAnswer}
+use Rattle.bq769x0.specs.declared.setting.InitAnswer.the-variants as I
+
+-- `new`
+made : Done → NewAnswer
+made x = N.Made
+
+made-undone : (a : NewAnswer) → answerBack made N.Refused (asMade a) ≡ a
+unfolding made
+made-undone N.Made = refl
+made-undone (N.Refused e) = ap N.Refused (untold-told e)
+
+made-agree : (a b : NewAnswer) → asMade a ≡ asMade b → a ≡ b
+made-agree = one-to-one asMade (answerBack made N.Refused) made-undone
+
+pub new-agree : (r r′ : New) → asNew r ≡ asNew r′ → r ≡ r′
+new-agree r r′ e =
+    let a = made-agree (r .answer) (r′ .answer) (ap (λ (x : Left Done). x .answer) e) in
+    let d = ap (λ (x : Left Done). x .device) e in
+    λ i. record { answer = a i; device = d i }
+
+-- the answer of `init`
+ready : Values → InitAnswer
+ready v =
+    I.Ready
+    (record {
+      «ocdscd_range_used» = v .range;
+      «scd_threshold» = record { 0 = v .scd };
+      «ocd_threshold» = record { 0 = v .ocd };
+      «uv_threshold» = record { 0 = v .uv };
+      «ov_threshold» = record { 0 = v .ov };
+    })
+
+init-undone : (a : InitAnswer) → answerBack ready I.Refused (asInit a) ≡ a
+unfolding ready
+init-undone (I.Ready values) = refl
+init-undone (I.Refused e) = ap I.Refused (untold-told e)
+
+pub answer-agree : (a b : InitAnswer) → asInit a ≡ asInit b → a ≡ b
+answer-agree = one-to-one asInit (answerBack ready I.Refused) init-undone
+
+-- a call that answers, leaves a record and moves the cursor, whatever its program
+module _ {A : Type 0} (p : Prog (Left A)) (b : Bus) where
+  left-agree : (a a′ : Answer A) (d d′ : BQ769x0) (log log′ : List ℕ) (at at′ : Cursor)
+      → ran (leaves a d) (b .tape) log at ≡ onTape p b
+      → ran (leaves a′ d′) (b .tape) log′ at′ ≡ onTape p b
+      → (a ≡ a′) × (d ≡ d′) × (at ≡ at′) × (log ≡ log′)
+  left-agree a a′ d d′ log log′ at at′ e e′ =
+      let same = e ∙ sym e′ in (
+        ap (λ (x : Ran (Left A)). x .answer .answer) same,
+        ap (λ (x : Ran (Left A)). x .answer .device) same,
+        ap (λ (x : Ran (Left A)). x .bus .at) same,
+        ap (λ (x : Ran (Left A)). x .bus .log) same,
+      )
+
+-- `read_adc_characteristics`
+pub calibrated-agree : (p : Prog (Left Done)) (b : Bus) (r r′ : Calibrated) (log log′ : List ℕ)
+    → ran (leaves (asRaw (r .answer)) (r .device)) (b .tape) log (r .at) ≡ onTape p b
+    → ran (leaves (asRaw (r′ .answer)) (r′ .device)) (b .tape) log′ (r′ .at) ≡ onTape p b
+    → (r ≡ r′) × (log ≡ log′)
+calibrated-agree p b r r′ log log′ e e′ =
+    let same = left-agree p b (asRaw (r .answer)) (asRaw (r′ .answer)) (r .device) (r′ .device) log log′ (r .at) (r′ .at) e e′ in
+    let a = raw-agree (r .answer) (r′ .answer) (same .0) in
+    (λ i. record { answer = a i; device = same .1 i; at = same .2 i }, same .3)
+
+-- `init`
+pub init-agree : (p : Prog (Left Values)) (b : Bus) (r r′ : Init) (log log′ : List ℕ)
+    → ran (leaves (asInit (r .answer)) (r .device)) (b .tape) log (r .at) ≡ onTape p b
+    → ran (leaves (asInit (r′ .answer)) (r′ .device)) (b .tape) log′ (r′ .at) ≡ onTape p b
+    → (r ≡ r′) × (log ≡ log′)
+init-agree p b r r′ log log′ e e′ =
+    let same = left-agree p b (asInit (r .answer)) (asInit (r′ .answer)) (r .device) (r′ .device) log log′ (r .at) (r′ .at) e e′ in
+    let a = answer-agree (r .answer) (r′ .answer) (same .0) in
+    (λ i. record { answer = a i; device = same .1 i; at = same .2 i }, same .3)

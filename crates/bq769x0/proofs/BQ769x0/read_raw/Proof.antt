@@ -1,0 +1,35 @@
+-- `bq769x0::BQ769x0::read_raw` meets its contract. Assumes nothing.
+use mathlib.Core.Path.{_≡_, sym, _∙_}
+use borrow.Author.Tests.{not-true, not-false}
+use Rattle.bq769x0.specs.Registers.{readRaw}
+use Rattle.bq769x0.proofs.Soundly.{sound-on, sound-off}
+use borrow.Author.Needs.{needs}
+use Rattle.bq769x0.proofs.BQ769x0.read_raw.Statement.{statement}
+use Rattle.bq769x0.proofs.BQ769x0.read_raw.Tie as tie
+
+is-sound-requires : tie.Need-is-sound-requires
+is-sound-requires c κs = search needs
+
+returns : tie.Need-returns
+unfolding readRaw
+returns c = sym (sound-off _ _ _ _ (sym (c .before .is-sound .ensures) ∙ not-true _ (c .if1 .taken)))
+
+read-requires : tie.Need-read-requires
+read-requires c κs = search needs
+
+same-length : tie.Need-same-length
+same-length c = search needs
+
+same-length-2 : tie.Need-same-length-2
+same-length-2 c = search needs
+
+returns-2 : tie.Need-returns-2
+unfolding readRaw
+returns-2 c =
+    c .before .before .before .before .read .ensures
+    ∙ sym (sound-on _ _ _ _ (sym (c .before .before .before .before .before .before .before .before .is-sound .ensures) ∙ not-false _ (c .before .before .before .before .before .before .before .if1 .left)))
+
+pub read-raw-spec : {M : Type 1} → statement M
+read-raw-spec =
+    tie.close
+    (tie.spec is-sound-requires returns read-requires same-length same-length-2 returns-2)

@@ -1,0 +1,31 @@
+-- `bq769x0::BQ769x0::write_raw` meets its contract. Assumes nothing.
+use mathlib.Core.Path.{_≡_, sym, _∙_}
+use borrow.Author.Tests.{not-true, not-false}
+use Rattle.bq769x0.specs.Registers.{writeRaw}
+use Rattle.bq769x0.proofs.Soundly.{sound-on, sound-off}
+use borrow.Author.Needs.{needs}
+use Rattle.bq769x0.proofs.BQ769x0.write_raw.Statement.{statement}
+use Rattle.bq769x0.proofs.BQ769x0.write_raw.Tie as tie
+
+is-sound-requires : tie.Need-is-sound-requires
+is-sound-requires c κs = search needs
+
+returns : tie.Need-returns
+unfolding writeRaw
+returns c = sym (sound-off _ _ _ _ (sym (c .before .is-sound .ensures) ∙ not-true _ (c .if1 .taken)))
+
+write-requires : tie.Need-write-requires
+write-requires c κs = search needs
+
+same-length : tie.Need-same-length
+same-length c = search needs
+
+returns-2 : tie.Need-returns-2
+unfolding writeRaw
+returns-2 c =
+    c .before .before .write .ensures
+    ∙ sym (sound-on _ _ _ _ (sym (c .before .before .before .before .before .is-sound .ensures) ∙ not-false _ (c .before .before .before .before .if1 .left)))
+
+pub write-raw-spec : {M : Type 1} → statement M
+write-raw-spec =
+    tie.close (tie.spec is-sound-requires returns write-requires same-length returns-2)

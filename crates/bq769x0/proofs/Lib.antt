@@ -1,0 +1,7 @@
+pub mod Agree
+mod Always
+mod Calls
+pub mod Keeps
+mod Soundly
+mod Stages
+mod Zero

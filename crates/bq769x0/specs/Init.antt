@@ -1,0 +1,61 @@
+-- Setting up, as a program beside the crate's `init`, in three stages; each `orLeave` is one `?`, and names the record that a refusal leaves.
+-- Assumes nothing.
+use Prim.Native.Nat.{ℕ}
+use mathlib.Core.List.{List, [], _∷_}
+use lib.Bits.{bitOr}
+use lib.ListN.{getD}
+use Rattle.refusals.specs.Refusal.{Answer, value, refused, told}
+use Rattle.settings.specs.Steps.{InMv, stepsFor}
+use Rattle.settings.specs.Plan.{Values, planFor, asValues}
+use Rattle.settings.specs.declared.Config.{Config}
+use Rattle.settings.specs.declared.Steps.{Steps}
+use Rattle.protection.specs.Scd as scd
+use Rattle.protection.specs.Ocd as ocd
+use Rattle.bus.specs.Programs.{Prog, ret, bind, _orLeave_, _>>=_}
+use Rattle.bus.specs.Raw.{readBytes, writeRaw}
+use Rattle.bq769x0.specs.Record.{Left, leaves, leaving, nine, setupOf, withShunt}
+use Rattle.bq769x0.specs.Registers.{soundly}
+use Rattle.bq769x0.specs.Calibrate.{calibrate}
+use Rattle.bq769x0.specs.declared.BQ769x0.{BQ769x0}
+use Rattle.bq769x0.specs.declared.setting.InitAnswer.{InitAnswer}
+use Rattle.bq769x0.specs.declared.setting.InitAnswer.the-variants as I
+
+abbrev pub asInit : InitAnswer → Answer Values
+asInit (I.Ready values) = value (asValues values)
+asInit (I.Refused e) = refused (told e)
+
+-- a refusal, whatever was to be answered
+abbrev pub refusalOf : {A B : Type 0} → Answer A → Answer B
+refusalOf (value a) = refused nine
+refusalOf (refused r) = refused r
+
+abbrev pub inMv : Steps → InMv
+inMv steps = record { scd = scd.mvOf (steps .scd); ocd = ocd.mvOf (steps .ocd) }
+
+-- a stage, and the next one on the record that it leaves
+unfoldable pub onwardBy : {A B : Type 0} → (BQ769x0 → Prog (Left B)) → BQ769x0 → Answer A → Prog (Left B)
+onwardBy f d (value a) = f d
+onwardBy f d (refused r) = ret (leaving d r)
+
+unfoldable pub onward : {A B : Type 0} → (BQ769x0 → Prog (Left B)) → Left A → Prog (Left B)
+onward f left = onwardBy f (left .device) (left .answer)
+
+-- 05 as it was read, with bit 6, which lets the counter run
+unfoldable pub counting : BQ769x0 → Values → Prog (Left Values)
+counting d values = do
+  byte ← readBytes (setupOf d) 0x05 1 orLeave leaving d
+  _ ← writeRaw (setupOf d) 0x05 (bitOr (getD byte 0 0) 0b0100_0000 ∷ []) orLeave leaving d
+  ret (leaves (value values) d)
+
+-- the six bytes; once they are written the shunt and the mark are stored, whatever becomes of 05
+unfoldable pub setting : Config → InMv → BQ769x0 → Prog (Left Values)
+setting config steps d = do
+  plan ← ret (planFor (d .«adc_gain») (d .«adc_offset») config (steps .scd) (steps .ocd)) orLeave leaving d
+  _ ← writeRaw (setupOf d) 0x06 (plan .regs) orLeave leaving d
+  counting (withShunt d (config .shunt)) (plan .values)
+
+-- whatever way the steps are chosen
+unfoldable pub initBy : (Config → Answer InMv) → BQ769x0 → Config → Prog (Left Values)
+initBy choose d config = soundly d (leaving d nine) (do
+  steps ← ret (choose config) orLeave leaving d
+  bind (calibrate d) (onward (setting config steps)))

@@ -1,0 +1,4 @@
+pub mod Record
+pub mod Registers
+pub mod Calibrate
+pub mod Init

@@ -1,0 +1,174 @@
+-- What is accepted is just what begins with a job written out. A job written out is read back, whatever tape follows; and bytes, each below
+-- 256, that are accepted are their job written out, and then, from byte 34 on, the tape.
+-- Assumes nothing.
+use mathlib.Core.Path.{_≡_, refl, sym, ap, subst, _∙_}
+use mathlib.Core.Bool.{Bool, true, false, cond}
+use mathlib.Core.List.{List, [], _∷_, _++_}
+use Prim.Native.Nat.{ℕ, zero, suc, _+_, _*_, _/_, _%_, _≤_, _<_}
+use native.Mathlib.Numerals.{unary-clauses}
+use native.Mathlib.Omega.{arith}
+use lib.ListN.{length, drop}
+use lib.Seq.{drop-cons}
+use lib.Dec.{T, eqb, ltb, eqb→eq}
+use borrow.Author.Tests.{le-leb}
+use Rattle.laws.proofs.Tests.{below}
+use Rattle.signed.specs.Numbers.{word}
+use Rattle.refusals.specs.Refusal.{Answer, value, refused, no}
+use Rattle.job.specs.Jobs.{byteAt, numberAt, isJob, deviceOf, configOf, jobOf}
+use Rattle.job.specs.Encoding.{four, zeroOrOne, deviceValue, configValue, field, fieldsOf}
+use Rattle.job.specs.declared.Job.{Job}
+use Rattle.job.proofs.Codes.{scd-coded, ocd-coded, uv-coded, ov-coded}
+use Rattle.job.proofs.Tested.{Tested, tested}
+
+-- ---- written out, then read
+number-four : (n : ℕ) → word (n / 16777216) (n / 65536 % 256) * 65536 + word (n / 256 % 256) (n % 256) ≡ n
+number-four n = omega arith
+
+check-read : (b : Bool) → eqb (zeroOrOne b) 1 ≡ b
+check-read false = refl
+check-read true = refl
+
+check-small : (b : Bool) → ltb (zeroOrOne b) 2 ≡ true
+check-small false = refl
+check-small true = refl
+
+module _ (j : Job) (tape : List ℕ) where
+  abbrev bytes : List ℕ
+  bytes = fieldsOf j ++ tape
+
+  long : 34 ≤ length bytes
+  unfolding fieldsOf four
+  long = omega arith
+
+  is-job : isJob bytes ≡ true
+  unfolding isJob fieldsOf four
+  is-job =
+      let c = j .config in
+      rw (
+        le-leb 34 (length bytes) long,
+        check-small (j .device .check),
+        scd-coded .listed (c .«scd_delay»),
+        ocd-coded .listed (c .«ocd_delay»),
+        uv-coded .listed (c .«uv_delay»),
+        ov-coded .listed (c .«ov_delay»),
+      )
+
+  device-read : deviceOf bytes ≡ j .device
+  unfolding fieldsOf four
+  device-read = rw (check-read (j .device .check))
+
+  config-read : configOf bytes ≡ j .config
+  unfolding fieldsOf four
+  config-read =
+      let c = j .config in
+      rw (
+        number-four (c .shunt .0),
+        number-four (c .«scd_threshold» .0),
+        number-four (c .«ocd_threshold» .0),
+        number-four (c .«uv_threshold» .0),
+        number-four (c .«ov_threshold» .0),
+        scd-coded .found (c .«scd_delay»),
+        ocd-coded .found (c .«ocd_delay»),
+        uv-coded .found (c .«uv_delay»),
+        ov-coded .found (c .«ov_delay»),
+      )
+
+  pub tape-follows : drop 34 bytes ≡ tape
+  unfolding fieldsOf four
+  tape-follows = refl
+
+  pub job-read : jobOf bytes ≡ value j
+  unfolding jobOf
+  job-read = rw (is-job, device-read, config-read)
+
+-- ---- read, then written out
+-- n bytes from byte i on
+abbrev from : List ℕ → ℕ → ℕ → List ℕ
+from l i zero = []
+from l i (suc n) = byteAt l i ∷ from l (suc i) n
+
+from-drop : (l : List ℕ) (i n : ℕ) → i + n ≤ length l → drop i l ≡ from l i n ++ drop (i + n) l
+from-drop l i zero h = simp unary-clauses
+from-drop l i (suc n) h =
+    let here : i < length l = omega arith in
+    let rest : suc i + n ≤ length l = omega arith in
+    let end : suc i + n ≡ i + suc n = omega arith in
+    drop-cons l i 0 here
+    ∙ ap (λ (r : List ℕ). byteAt l i ∷ r) (from-drop l (suc i) n rest ∙ ap (λ (k : ℕ). from l (suc i) n ++ drop k l) end)
+
+four-number : (a b c d : ℕ) → b < 256 → c < 256 → d < 256 → four (word a b * 65536 + word c d) ≡ a ∷ b ∷ c ∷ d ∷ []
+unfolding four
+four-number a b c d hb hc hd =
+    let n = word a b * 65536 + word c d in
+    let ea : n / 16777216 ≡ a = omega arith in
+    let eb : n / 65536 % 256 ≡ b = omega arith in
+    let ec : n / 256 % 256 ≡ c = omega arith in
+    let ed : n % 256 ≡ d = omega arith in
+    rw (ea, eb, ec, ed)
+
+check-written : (n : ℕ) → n < 2 → zeroOrOne (eqb n 1) ≡ n
+check-written n h = eqb→eq _ _ (below 2 (λ n. eqb (zeroOrOne (eqb n 1)) n) tt n h)
+
+module _ (bytes : List ℕ) (small : (i : ℕ) → byteAt bytes i < 256) where
+  abbrev found : Job
+  found = record { device = deviceOf bytes; config = configOf bytes }
+
+  four-at : (i : ℕ) → four (numberAt bytes i) ≡ byteAt bytes i ∷ byteAt bytes (i + 1) ∷ byteAt bytes (i + 2) ∷ byteAt bytes (i + 3) ∷ []
+  four-at i = four-number _ _ _ _ (small (i + 1)) (small (i + 2)) (small (i + 3))
+
+  -- a length of less than 256 is a zero byte and itself
+  high : (i n : ℕ) → word (byteAt bytes i) (byteAt bytes (i + 1)) ≡ n → n < 256 → byteAt bytes i ≡ 0
+  high i n e h = omega (arith, small (i + 1))
+
+  low : (i n : ℕ) → word (byteAt bytes i) (byteAt bytes (i + 1)) ≡ n → n < 256 → byteAt bytes (i + 1) ≡ n
+  low i n e h = omega (arith, small (i + 1))
+
+  device-written : Tested bytes → field 0x20 (deviceValue (deviceOf bytes)) ≡ from bytes 0 7
+  device-written t =
+      rw (
+        check-written (byteAt bytes 6) (t .check),
+        t .device .tagged,
+        high 1 4 (t .device .sized) (omega arith),
+        low 1 4 (t .device .sized) (omega arith),
+      )
+
+  config-written : Tested bytes → field 0x21 (configValue (configOf bytes)) ≡ from bytes 7 27
+  config-written t =
+      rw (
+        four-at 10,
+        four-at 14,
+        four-at 18,
+        four-at 22,
+        four-at 26,
+        scd-coded .has (byteAt bytes 30) (t .codes .1),
+        ocd-coded .has (byteAt bytes 31) (t .codes .2),
+        uv-coded .has (byteAt bytes 32) (t .codes .3),
+        ov-coded .has (byteAt bytes 33) (t .codes .4),
+        t .config .tagged,
+        high 8 24 (t .config .sized) (omega arith),
+        low 8 24 (t .config .sized) (omega arith),
+      )
+
+  written : Tested bytes → bytes ≡ fieldsOf found ++ drop 34 bytes
+  unfolding fieldsOf
+  written t =
+      from-drop bytes 0 34 (t .codes .0)
+      ∙ ap (λ (d : List ℕ). (d ++ from bytes 7 27) ++ drop 34 bytes) (sym (device-written t))
+      ∙ ap (λ (c : List ℕ). (field 0x20 (deviceValue (deviceOf bytes)) ++ c) ++ drop 34 bytes) (sym (config-written t))
+
+  is-value : Answer Job → Bool
+  is-value (value j) = true
+  is-value (refused r) = false
+
+  or-found : Answer Job → Job
+  or-found (value j) = j
+  or-found (refused r) = found
+
+  job-if : (b : Bool) → isJob bytes ≡ b → (j : Job) → cond b (value found) (refused (no 15 [])) ≡ value j → bytes ≡ fieldsOf j ++ drop 34 bytes
+  unfolding is-value or-found
+  job-if true e j q = subst (λ (k : Job). bytes ≡ fieldsOf k ++ drop 34 bytes) (ap or-found q) (written (tested bytes e))
+  job-if false e j q = absurd (subst T (sym (ap is-value q)) tt)
+
+  pub job-written : (j : Job) → jobOf bytes ≡ value j → bytes ≡ fieldsOf j ++ drop 34 bytes
+  unfolding jobOf
+  job-written j q = job-if (isJob bytes) refl j q

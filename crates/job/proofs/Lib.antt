@@ -1,0 +1,5 @@
+pub mod Accepted
+pub mod Agree
+pub mod Codes
+pub mod Example
+pub mod Tested

@@ -1,0 +1,38 @@
+-- A job written out: field 20 and field 21, each a tag byte, a two-byte length, high first, and a value.
+-- Assumes nothing.
+use Prim.Native.Nat.{ℕ, _/_, _%_}
+use mathlib.Core.Bool.{Bool, true, false}
+use mathlib.Core.List.{List, [], _∷_, _++_}
+use lib.ListN.{length}
+use Rattle.protection.specs.Delays.{scdCode, ocdCode, uvCode, ovCode}
+use Rattle.settings.specs.declared.Config.{Config}
+use Rattle.job.specs.declared.Device.{Device}
+use Rattle.job.specs.declared.Job.{Job}
+
+abbrev pub field : ℕ → List ℕ → List ℕ
+field tag value = tag ∷ length value / 256 ∷ length value % 256 ∷ value
+
+-- the four bytes of a number below 2^32, high first
+unfoldable pub four : ℕ → List ℕ
+four n = n / 16777216 ∷ n / 65536 % 256 ∷ n / 256 % 256 ∷ n % 256 ∷ []
+
+abbrev pub zeroOrOne : Bool → ℕ
+zeroOrOne false = 0
+zeroOrOne true = 1
+
+-- X, cells, address, check
+abbrev pub deviceValue : Device → List ℕ
+deviceValue d = d .x ∷ d .cells ∷ d .address ∷ zeroOrOne (d .check) ∷ []
+
+-- shunt, SCD A, OCD A, UV mV, OV mV, and the codes of the delays
+abbrev pub configValue : Config → List ℕ
+configValue c =
+    four (c .shunt .0)
+    ++ four (c .«scd_threshold» .0)
+    ++ four (c .«ocd_threshold» .0)
+    ++ four (c .«uv_threshold» .0)
+    ++ four (c .«ov_threshold» .0)
+    ++ scdCode (c .«scd_delay») ∷ ocdCode (c .«ocd_delay») ∷ uvCode (c .«uv_delay») ∷ ovCode (c .«ov_delay») ∷ []
+
+unfoldable pub fieldsOf : Job → List ℕ
+fieldsOf j = field 0x20 (deviceValue (j .device)) ++ field 0x21 (configValue (j .config))

@@ -1,0 +1,3 @@
+pub mod Delays
+pub mod Jobs
+pub mod Encoding

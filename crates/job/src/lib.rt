@@ -1,0 +1,161 @@
+// The job at the head of the printing program's input: field 20, the device, and field 21, the configuration. The tape follows.
+ghost use mathlib.Core.Path.{_≡_};
+ghost use Prim.Native.Nat.{_+_, _≤_, _<_};
+ghost use lib.ListN.{length};
+ghost use Rattle.job.specs.Jobs.{numberAt, isField, isJob, Listed, deviceOf, configOf, jobOf, asJob};
+ghost use Rattle.job.specs.Delays.{scdAt, ocdAt, uvAt, ovAt};
+use protection::delays::OCDDelay;
+use protection::delays::OVDelay;
+use protection::delays::SCDDelay;
+use protection::delays::UVDelay;
+use refusals::Error;
+use settings::Config;
+use units::Amperes;
+use units::MicroOhms;
+use units::MilliVolts;
+
+pub const TAPE_AT: usize = 34;
+
+pub struct Device {
+    pub x: u8,
+    pub cells: u8,
+    pub address: u8,
+    pub check: bool,
+}
+
+pub struct Job {
+    pub device: Device,
+    pub config: Config,
+}
+
+pub enum JobAnswer {
+    Wanted(Job),
+    Refused(Error),
+}
+
+// By their codes from 0.
+const SCD_DELAYS: [SCDDelay; 4] = [
+    SCDDelay::_70uS,
+    SCDDelay::_100uS,
+    SCDDelay::_200uS,
+    SCDDelay::_400uS,
+];
+
+const OCD_DELAYS: [OCDDelay; 8] = [
+    OCDDelay::_8ms,
+    OCDDelay::_20ms,
+    OCDDelay::_40ms,
+    OCDDelay::_80ms,
+    OCDDelay::_160ms,
+    OCDDelay::_320ms,
+    OCDDelay::_640ms,
+    OCDDelay::_1280ms,
+];
+
+const UV_DELAYS: [UVDelay; 4] = [UVDelay::_1s, UVDelay::_4s, UVDelay::_8s, UVDelay::_16s];
+
+const OV_DELAYS: [OVDelay; 4] = [OVDelay::_1s, OVDelay::_4s, OVDelay::_8s, OVDelay::_16s];
+
+fn scd_delay(code: u8) -> SCDDelay
+    requires { ⌜ code < 4 ⌝ }
+    ensures { λ r. ⌜ r ≡ scdAt code ⌝ }
+{
+    SCD_DELAYS[code as usize]
+}
+
+fn ocd_delay(code: u8) -> OCDDelay
+    requires { ⌜ code < 8 ⌝ }
+    ensures { λ r. ⌜ r ≡ ocdAt code ⌝ }
+{
+    OCD_DELAYS[code as usize]
+}
+
+fn uv_delay(code: u8) -> UVDelay
+    requires { ⌜ code < 4 ⌝ }
+    ensures { λ r. ⌜ r ≡ uvAt code ⌝ }
+{
+    UV_DELAYS[code as usize]
+}
+
+fn ov_delay(code: u8) -> OVDelay
+    requires { ⌜ code < 4 ⌝ }
+    ensures { λ r. ⌜ r ≡ ovAt code ⌝ }
+{
+    OV_DELAYS[code as usize]
+}
+
+// Four bytes, high first.
+fn be_u32(job: &[u8], at: usize) -> u32
+    requires { ⌜ at + 4 ≤ length (now job) ⌝ }
+    ensures { λ r. ⌜ r ≡ numberAt (now (job .entry)) at ⌝ }
+{
+    let high = signed::be_u16(job[at], job[at + 1]);
+    let low = signed::be_u16(job[at + 2], job[at + 3]);
+    high as u32 * 65536 + low as u32
+}
+
+// At `at` stands a field of this tag and length.
+fn is_field(job: &[u8], at: usize, tag: u8, len: u16) -> bool
+    requires { ⌜ at + 3 ≤ length (now job) ⌝ }
+    ensures { λ r. ⌜ r ≡ isField (now (job .entry)) at tag len ⌝ }
+{
+    let said = signed::be_u16(job[at + 1], job[at + 2]);
+    (job[at] == tag) & (said == len)
+}
+
+fn is_job(job: &[u8]) -> bool
+    ensures { λ r. ⌜ r ≡ isJob (now (job .entry)) ⌝ }
+{
+    if job.len() < TAPE_AT {
+        return false;
+    }
+    is_field(job, 0, 0x20, 4)
+        & (job[6] < 2)
+        & is_field(job, 7, 0x21, 24)
+        & (job[30] < 4)
+        & (job[31] < 8)
+        & (job[32] < 4)
+        & (job[33] < 4)
+}
+
+fn device_of(job: &[u8]) -> Device
+    requires { ⌜ 34 ≤ length (now job) ⌝ }
+    ensures { λ r. ⌜ r ≡ deviceOf (now (job .entry)) ⌝ }
+{
+    Device {
+        x: job[3],
+        cells: job[4],
+        address: job[5],
+        check: job[6] == 1,
+    }
+}
+
+fn config_of(job: &[u8]) -> Config
+    requires { ⌜ Listed (now job) ⌝ }
+    ensures { λ r. ⌜ r ≡ configOf (now (job .entry)) ⌝ }
+{
+    Config {
+        shunt: MicroOhms(be_u32(job, 10)),
+        scd_delay: scd_delay(job[30]),
+        scd_threshold: Amperes(be_u32(job, 14)),
+        ocd_delay: ocd_delay(job[31]),
+        ocd_threshold: Amperes(be_u32(job, 18)),
+        uv_delay: uv_delay(job[32]),
+        uv_threshold: MilliVolts(be_u32(job, 22)),
+        ov_delay: ov_delay(job[33]),
+        ov_threshold: MilliVolts(be_u32(job, 26)),
+    }
+}
+
+// The job that bytes begin with, or 15. The tape starts at TAPE_AT.
+pub fn parse(job: &[u8]) -> JobAnswer
+    ensures { λ r. ⌜ asJob r ≡ jobOf (now (job .entry)) ⌝ }
+{
+    if !is_job(job) {
+        return JobAnswer::Refused(Error::BadTape);
+    }
+    JobAnswer::Wanted(Job {
+        device: device_of(job),
+        config: config_of(job),
+    })
+}

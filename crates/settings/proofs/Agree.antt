@@ -1,0 +1,50 @@
+-- Two outcomes that meet one promise are one: a choice of steps is told by its millivolts or its refusal, a plan by its values or its refusal, and
+-- its bytes.
+-- Assumes nothing.
+use mathlib.Core.Path.{_≡_, refl, ap}
+use Rattle.laws.proofs.Inverse.{one-to-one}
+use Rattle.refusals.proofs.Telling.{answerBack, untold-told}
+use Rattle.protection.proofs.Agree.{scd-named, ocd-named}
+use Rattle.protection.specs.Scd as scd
+use Rattle.protection.specs.Ocd as ocd
+use Rattle.settings.specs.Plan.{Values, Outcome, asAnswer, asPlan}
+use Rattle.settings.specs.Steps.{InMv, asSteps}
+use Rattle.settings.specs.declared.Plan.{Plan}
+use Rattle.settings.specs.declared.PlanAnswer.{PlanAnswer}
+use Rattle.settings.specs.declared.PlanAnswer.the-variants as P
+use Rattle.settings.specs.declared.StepsAnswer.{StepsAnswer}
+use Rattle.settings.specs.declared.StepsAnswer.the-variants as S
+
+abbrev chosen : InMv → StepsAnswer
+chosen mv = S.Chosen (record { scd = scd.named (mv .scd); ocd = ocd.named (mv .ocd) })
+
+steps-undone : (a : StepsAnswer) → answerBack chosen S.Refused (asSteps a) ≡ a
+steps-undone (S.Chosen steps) = λ i. S.Chosen (record { scd = scd-named (steps .scd) i; ocd = ocd-named (steps .ocd) i })
+steps-undone (S.Refused e) = ap S.Refused (untold-told e)
+
+abbrev ready : Values → PlanAnswer
+ready v =
+    P.Ready
+    (record {
+      «ocdscd_range_used» = v .range;
+      «scd_threshold» = record { 0 = v .scd };
+      «ocd_threshold» = record { 0 = v .ocd };
+      «uv_threshold» = record { 0 = v .uv };
+      «ov_threshold» = record { 0 = v .ov };
+    })
+
+answer-undone : (a : PlanAnswer) → answerBack ready P.Refused (asAnswer a) ≡ a
+answer-undone (P.Ready values) = refl
+answer-undone (P.Refused e) = ap P.Refused (untold-told e)
+
+abbrev planBack : Outcome → Plan
+planBack o = record { answer = answerBack ready P.Refused (o .answer); regs = o .regs }
+
+plan-undone : (p : Plan) → planBack (asPlan p) ≡ p
+plan-undone p = λ i. record { answer = answer-undone (p .answer) i; regs = p .regs }
+
+pub steps-agree : (a b : StepsAnswer) → asSteps a ≡ asSteps b → a ≡ b
+steps-agree = one-to-one asSteps (answerBack chosen S.Refused) steps-undone
+
+pub plan-agree : (a b : Plan) → asPlan a ≡ asPlan b → a ≡ b
+plan-agree = one-to-one asPlan planBack plan-undone

@@ -1,0 +1,62 @@
+-- No plan is refused with 20: the range chosen is the lower or the upper.
+-- Assumes nothing.
+use mathlib.Core.Path.{_≡_, refl, subst}
+use mathlib.Core.Bool.{Bool, true, false, cond, _&&_}
+use mathlib.Core.List.{[]}
+use Prim.Native.Nat.{ℕ}
+use lib.IntN.{ℤ}
+use Rattle.refusals.specs.Refusal.{Answer, value, refused, no}
+use Rattle.protection.specs.Ranges.{hasLower, hasUpper, rangeFor, codeFor}
+use Rattle.protection.specs.Steps.{scdLower, scdUpper, ocdLower, ocdUpper}
+use Rattle.protection.specs.declared.range.OCDSCDRange.{OCDSCDRange}
+use Rattle.protection.specs.declared.range.OCDSCDRange.the-variants as R
+use Rattle.settings.specs.Exactly.{isNo}
+use Rattle.settings.specs.Order.{_>>=_}
+use Rattle.settings.specs.Plan.{setFor, planFor}
+use Rattle.settings.specs.Registers.{protectFor}
+use Rattle.settings.specs.declared.Config.{Config}
+use Rattle.settings.proofs.After.{choice, choice-only, only-not}
+use Rattle.settings.proofs.Only.{shunt-only, code-only}
+use Rattle.settings.proofs.Values.{same-value, refused-not}
+use Rattle.settings.proofs.WithinNumbers.{within-other}
+
+given-not :
+    {A B : Type 0} (n : ℕ) (a : Answer A) (next : A → Answer B)
+    → isNo n a ≡ false
+    → ((x : A) → a ≡ value x → isNo n (next x) ≡ false)
+    → isNo n (a >>= next) ≡ false
+unfolding _>>=_
+given-not n (value x) next here later = later x refl
+given-not n (refused r) next here later = here
+
+module _ (gain : ℕ) (offset : ℤ) (config : Config) (scd ocd : ℕ) where
+  abbrev s : OCDSCDRange
+  s = rangeFor scdLower scdUpper scd
+
+  abbrev o : OCDSCDRange
+  o = rangeFor ocdLower ocdUpper ocd
+
+  abbrev Not20 : ℕ → ℕ → OCDSCDRange → Type 0
+  Not20 ovCode uvCode range = isNo 20 (setFor gain offset config scd ocd range ovCode uvCode) ≡ false
+
+  set-not : (range : OCDSCDRange) → choice scd ocd ≡ value range → (ovCode uvCode : ℕ) → Not20 ovCode uvCode range
+  unfolding setFor protectFor codeFor _>>=_
+  set-not range e ovCode uvCode = by-tests (hasLower s && hasLower o) (hasUpper s && hasUpper o) e
+    where
+      by-tests :
+          (lower upper : Bool)
+          → cond lower (value R.Lower) (cond upper (value R.Upper) (refused (no 6 []))) ≡ value range
+          → Not20 ovCode uvCode range
+      by-tests true upper e = subst (Not20 ovCode uvCode) (same-value e) refl
+      by-tests false true e = subst (Not20 ovCode uvCode) (same-value e) refl
+      by-tests false false e = refused-not e
+
+  pub never-20 : isNo 20 (planFor gain offset config scd ocd) ≡ false
+  unfolding planFor
+  never-20 =
+      given-not 20 _ _ (only-not 12 20 refl _ (shunt-only (config .shunt .0)))
+      (λ _ _. given-not 20 _ _ (only-not 9 20 refl _ (code-only gain offset (config .«ov_threshold» .0)))
+      (λ ovCode _. given-not 20 _ _ (only-not 9 20 refl _ (code-only gain offset (config .«uv_threshold» .0)))
+      (λ uvCode _. given-not 20 _ _ (only-not 6 20 refl _ (choice-only scd ocd))
+      (λ range chosen. given-not 20 _ _ (within-other gain offset (config .«ov_threshold» .0) (config .«uv_threshold» .0) 20 refl refl)
+      (λ _ _. set-not range chosen ovCode uvCode)))))

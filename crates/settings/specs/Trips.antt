@@ -1,0 +1,50 @@
+-- The trip registers for two asked voltages: the code of each, and whether it is within what the register can stand for.
+-- Assumes nothing.
+use Prim.Native.Nat.{ℕ}
+use mathlib.Core.Bool.{Bool, cond, _&&_}
+use mathlib.Core.List.{List, [], _∷_}
+use lib.Dec.{leb}
+use lib.IntN.{ℤ, pos, _-ℤ_, _*ℤ_}
+use Rattle.signed.specs.Numbers.{_÷↓_}
+use Rattle.refusals.specs.Refusal.{Answer, value, refused, no, told}
+use Rattle.adc.specs.Trips.{ovTrip, uvTrip, limits, askedReading, tripCode}
+use Rattle.adc.specs.declared.transfer.Limits.{Limits}
+use Rattle.settings.specs.Order.{_>>=_}
+use Rattle.settings.specs.declared.setup.Within.{Within}
+use Rattle.settings.specs.declared.setup.Within.the-variants as W
+
+-- the reading for an asked voltage in mV, rounded down, where the gain is not 0
+abbrev pub readingOf : ℕ → ℤ → ℕ → ℤ
+readingOf gain offset asked = ((pos asked -ℤ offset) *ℤ pos 1000) ÷↓ gain
+
+-- the code for an asked voltage; a gain of 0 is 9
+unfoldable pub tripCodeFor : ℕ → ℤ → ℕ → Answer ℕ
+tripCodeFor gain offset asked = askedReading gain offset asked >>= λ reading. value (tripCode reading)
+
+-- what the trip registers can stand for: the voltages in mV at codes 00 and FF
+abbrev pub ovLimits : ℕ → ℤ → Limits
+ovLimits gain offset = limits gain offset (ovTrip 0x00) (ovTrip 0xFF)
+
+abbrev pub uvLimits : ℕ → ℤ → Limits
+uvLimits gain offset = limits gain offset (uvTrip 0x00) (uvTrip 0xFF)
+
+abbrev pub figures : Limits → List ℤ
+figures limits = pos (limits .low .0) ∷ pos (limits .high .0) ∷ []
+
+-- from the voltage at code 00 to that at code FF, both in
+abbrev pub obtainable : ℕ → Limits → Bool
+obtainable asked limits = leb (limits .low .0) asked && leb asked (limits .high .0)
+
+-- the refusal n, with the limits, where asked is outside them
+unfoldable pub obtainableOr : ℕ → ℕ → Limits → Answer (Unit {0})
+obtainableOr n asked limits = cond (obtainable asked limits) (value tt) (refused (no n (figures limits)))
+
+-- 8 for the overvoltage, then 7 for the undervoltage
+unfoldable pub withinFor : ℕ → ℤ → ℕ → ℕ → Answer (Unit {0})
+withinFor gain offset ov uv =
+    obtainableOr 8 ov (ovLimits gain offset) >>= λ _.
+    obtainableOr 7 uv (uvLimits gain offset)
+
+abbrev pub asWithin : Within → Answer (Unit {0})
+asWithin W.Both = value tt
+asWithin (W.Refused e) = refused (told e)
