@@ -1,0 +1,3 @@
+pub mod Agree
+mod Laid
+mod Stages

@@ -1,0 +1,52 @@
+-- `firmware::layout::lay_out` meets its contract. Assumes nothing.
+use denote.Ref.{now}
+use Rattle.firmware.proofs.Laid.{laid-is}
+use borrow.Author.Needs.{needs}
+use Rattle.firmware.proofs.layout.lay_out.Statement.{statement}
+use Rattle.firmware.proofs.layout.lay_out.Tie as tie
+
+put8-requires : tie.Need-put8-requires
+put8-requires c κs = search needs
+
+put8-requires-2 : tie.Need-put8-requires-2
+put8-requires-2 c κs = search needs
+
+put4-requires : tie.Need-put4-requires
+put4-requires c κs = search needs
+
+put4-requires-2 : tie.Need-put4-requires-2
+put4-requires-2 c κs = search needs
+
+put4-requires-3 : tie.Need-put4-requires-3
+put4-requires-3 c κs = search needs
+
+put4-requires-4 : tie.Need-put4-requires-4
+put4-requires-4 c κs = search needs
+
+put4-requires-5 : tie.Need-put4-requires-5
+put4-requires-5 c κs = search needs
+
+returns : tie.Need-returns
+returns c =
+    let a = c .before .before .before .before .before .before .before .before .before .before .before .before .before .before .args in
+    laid-is (now (a .out)) (a .at) (a .five) (search needs)
+    (c .before .before .before .before .before .before .before .before .before .before .before .before .put8 .ensures)
+    (c .before .before .before .before .before .before .before .before .before .before .put82 .ensures)
+    (c .before .before .before .before .before .before .before .before .put4 .ensures)
+    (c .before .before .before .before .before .before .put42 .ensures)
+    (c .before .before .before .before .put43 .ensures)
+    (c .before .before .put44 .ensures)
+    (c .put45 .ensures)
+
+pub lay-out-spec : {M : Type 1} → statement M
+lay-out-spec =
+    tie.close
+    (tie.spec
+    put8-requires
+    put8-requires-2
+    put4-requires
+    put4-requires-2
+    put4-requires-3
+    put4-requires-4
+    put4-requires-5
+    returns)

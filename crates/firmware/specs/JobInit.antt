@@ -1,0 +1,46 @@
+-- A job set up, as a program: the job that bytes begin with, the device that it names, and that device's `init`; the record is dropped.
+-- Assumes nothing.
+use Prim.Native.Nat.{ℕ}
+use mathlib.Core.List.{List}
+use Rattle.refusals.specs.Refusal.{Answer, value, refused}
+use Rattle.settings.specs.Steps.{stepsFor}
+use Rattle.settings.specs.Plan.{Values}
+use Rattle.job.specs.Jobs.{jobOf, asJob}
+use Rattle.job.specs.declared.Device.{Device}
+use Rattle.job.specs.declared.JobAnswer.{JobAnswer}
+use Rattle.bus.specs.Programs.{Prog, ret, bind, _orLeave_, _>>=_}
+use Rattle.bus.specs.declared.Cursor.{Cursor}
+use Rattle.bq769x0.specs.Record.{Left, asMade, newFor}
+use Rattle.bq769x0.specs.Init.{refusalOf, initBy}
+use Rattle.bq769x0.specs.declared.BQ769x0.{BQ769x0}
+use Rattle.bq769x0.specs.declared.record.NewAnswer.{NewAnswer}
+
+-- tape and log unused
+abbrev pub start : Cursor
+start = record { tape = 0; log = 0 }
+
+-- the record where it is made
+abbrev pub madeOf : {A : Type 0} → Answer A → BQ769x0 → Answer BQ769x0
+madeOf (value done) d = value d
+madeOf (refused r) d = refused r
+
+abbrev pub deviceMade : Device → Answer BQ769x0
+deviceMade d =
+    let new = newFor (d .x) (d .address) (d .cells) (d .check) in
+    madeOf (new .answer) (new .device)
+
+abbrev pub dropped : {A : Type 0} → Left A → Prog (Answer A)
+dropped left = ret (left .answer)
+
+unfoldable pub jobInit : List ℕ → Prog (Answer Values)
+jobInit bytes = do
+  job ← ret (jobOf bytes) orLeave refused
+  device ← ret (deviceMade (job .device)) orLeave refused
+  bind (initBy stepsFor device (job .config)) dropped
+
+-- ---- a refusal before the init
+abbrev pub asNoJob : JobAnswer → Answer Values
+asNoJob answer = refusalOf (asJob answer)
+
+abbrev pub asNoDevice : NewAnswer → Answer Values
+asNoDevice answer = refusalOf (asMade answer)

@@ -1,0 +1,2 @@
+pub mod JobInit
+pub mod Layout
