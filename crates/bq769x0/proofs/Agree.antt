@@ -8,7 +8,7 @@ use Rattle.laws.proofs.Inverse.{one-to-one}
 use Rattle.refusals.specs.Refusal.{Answer}
 use Rattle.refusals.proofs.Telling.{answerBack, untold-told}
 use Rattle.settings.specs.Plan.{Values}
-use Rattle.settings.specs.declared.CalculatedValues.{CalculatedValues}
+use Rattle.settings.proofs.Agree.{calculated}
 use Rattle.bus.specs.Transfers.{Bus}
 use Rattle.bus.specs.Programs.{Prog, Ran, ran, onTape}
 use Rattle.bus.specs.Raw.{Done, asRaw}
@@ -45,15 +45,7 @@ new-agree r r′ e =
 
 -- the answer of `init`
 ready : Values → InitAnswer
-ready v =
-    I.Ready
-    (record {
-      «ocdscd_range_used» = v .range;
-      «scd_threshold» = record { 0 = v .scd };
-      «ocd_threshold» = record { 0 = v .ocd };
-      «uv_threshold» = record { 0 = v .uv };
-      «ov_threshold» = record { 0 = v .ov };
-    })
+ready v = I.Ready (calculated v)
 
 init-undone : (a : InitAnswer) → answerBack ready I.Refused (asInit a) ≡ a
 unfolding ready

@@ -1,16 +1,12 @@
 -- Setting up, as a program beside the crate's `init`, in three stages; each `orLeave` is one `?`, and names the record that a refusal leaves.
 -- Assumes nothing.
-use Prim.Native.Nat.{ℕ}
-use mathlib.Core.List.{List, [], _∷_}
+use mathlib.Core.List.{[], _∷_}
 use lib.Bits.{bitOr}
 use lib.ListN.{getD}
 use Rattle.refusals.specs.Refusal.{Answer, value, refused, told}
-use Rattle.settings.specs.Steps.{InMv, stepsFor}
+use Rattle.settings.specs.Steps.{InMv}
 use Rattle.settings.specs.Plan.{Values, planFor, asValues}
 use Rattle.settings.specs.declared.Config.{Config}
-use Rattle.settings.specs.declared.Steps.{Steps}
-use Rattle.protection.specs.Scd as scd
-use Rattle.protection.specs.Ocd as ocd
 use Rattle.bus.specs.Programs.{Prog, ret, bind, _orLeave_, _>>=_}
 use Rattle.bus.specs.Raw.{readBytes, writeRaw}
 use Rattle.bq769x0.specs.Record.{Left, leaves, leaving, nine, setupOf, withShunt}
@@ -24,13 +20,10 @@ abbrev pub asInit : InitAnswer → Answer Values
 asInit (I.Ready values) = value (asValues values)
 asInit (I.Refused e) = refused (told e)
 
--- a refusal, whatever was to be answered
+-- a refusal, whatever was to be answered; asked of refusals only
 abbrev pub refusalOf : {A B : Type 0} → Answer A → Answer B
 refusalOf (value a) = refused nine
 refusalOf (refused r) = refused r
-
-abbrev pub inMv : Steps → InMv
-inMv steps = record { scd = scd.mvOf (steps .scd); ocd = ocd.mvOf (steps .ocd) }
 
 -- a stage, and the next one on the record that it leaves
 unfoldable pub onwardBy : {A B : Type 0} → (BQ769x0 → Prog (Left B)) → BQ769x0 → Answer A → Prog (Left B)

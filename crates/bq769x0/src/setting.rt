@@ -2,11 +2,11 @@
 ghost use mathlib.Core.Path.{_≡_};
 ghost use Rattle.bus.specs.Transfers.{busOf};
 ghost use Rattle.bus.specs.Programs.{onTape, ran};
-ghost use Rattle.settings.specs.Steps.{asSteps, stepsFor};
+ghost use Rattle.settings.specs.Steps.{inMv, asSteps, stepsFor};
 ghost use Rattle.settings.specs.Plan.{asAnswer, asValues};
 ghost use Rattle.bus.specs.Raw.{asRaw};
 ghost use Rattle.bq769x0.specs.Record.{leaves};
-ghost use Rattle.bq769x0.specs.Init.{asInit, refusalOf, inMv, counting, setting, initBy};
+ghost use Rattle.bq769x0.specs.Init.{asInit, refusalOf, counting, setting, initBy};
 use crate::BQ769x0;
 use bus::Cursor;
 use bus::raw::RawAnswer;

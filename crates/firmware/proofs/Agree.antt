@@ -1,38 +1,17 @@
 -- Two outcomes that meet one promise agree: in the answer, the tape's and the log's position and the log's bytes; and, for C, in the number,
 -- the 36 bytes and the log's bytes.
 -- Assumes nothing.
-use mathlib.Core.Path.{_≡_, refl, sym, ap, _∙_}
+use mathlib.Core.Path.{_≡_, sym, ap, _∙_}
 use Prim.Native.Nat.{ℕ}
 use mathlib.Core.List.{List}
-use Rattle.laws.proofs.Inverse.{one-to-one}
 use Rattle.refusals.specs.Refusal.{Answer}
-use Rattle.refusals.proofs.Telling.{answerBack, untold-told}
 use Rattle.settings.specs.Plan.{Values}
 use Rattle.bus.specs.Transfers.{Bus}
 use Rattle.bus.specs.Programs.{Prog, Ran, ran, onTape}
 use Rattle.bq769x0.specs.Init.{asInit}
-use Rattle.bq769x0.specs.declared.setting.InitAnswer.{InitAnswer}
-use Rattle.bq769x0.specs.declared.setting.InitAnswer.the-variants as I
+use Rattle.bq769x0.proofs.Agree.{answer-agree}
 use Rattle.firmware.specs.Layout.{Handed, handed}
 use Rattle.firmware.specs.declared.JobInit.{JobInit}
-
-ready : Values → InitAnswer
-ready v =
-    I.Ready (record {
-      «ocdscd_range_used» = v .range;
-      «scd_threshold» = record { 0 = v .scd };
-      «ocd_threshold» = record { 0 = v .ocd };
-      «uv_threshold» = record { 0 = v .uv };
-      «ov_threshold» = record { 0 = v .ov };
-    })
-
-undone : (a : InitAnswer) → answerBack ready I.Refused (asInit a) ≡ a
-unfolding ready
-undone (I.Ready values) = refl
-undone (I.Refused e) = ap I.Refused (untold-told e)
-
-pub answer-agree : (a b : InitAnswer) → asInit a ≡ asInit b → a ≡ b
-answer-agree = one-to-one asInit (answerBack ready I.Refused) undone
 
 -- `init`
 pub init-agree : (p : Prog (Answer Values)) (b : Bus) (r r′ : JobInit) (log log′ : List ℕ)

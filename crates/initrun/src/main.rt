@@ -18,10 +18,10 @@ fn report(input: &[u8], log: &mut [u8], out: &mut [u8; 36]) {
 
 // The tape is what follows the two fields.
 fn set_up(input: &[u8], log: &mut [u8], out: &mut [u8; 36]) -> u8 {
-    if input.len() < 34 {
+    if input.len() < job::TAPE_AT {
         return firmware::bq769x0_init(input, b"", log, out);
     }
-    firmware::bq769x0_init(input, &input[34..], log, out)
+    firmware::bq769x0_init(input, &input[job::TAPE_AT..], log, out)
 }
 
 fn main() {

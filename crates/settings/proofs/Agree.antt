@@ -9,6 +9,7 @@ use Rattle.protection.specs.Scd as scd
 use Rattle.protection.specs.Ocd as ocd
 use Rattle.settings.specs.Plan.{Values, Outcome, asAnswer, asPlan}
 use Rattle.settings.specs.Steps.{InMv, asSteps}
+use Rattle.settings.specs.declared.CalculatedValues.{CalculatedValues}
 use Rattle.settings.specs.declared.Plan.{Plan}
 use Rattle.settings.specs.declared.PlanAnswer.{PlanAnswer}
 use Rattle.settings.specs.declared.PlanAnswer.the-variants as P
@@ -22,16 +23,18 @@ steps-undone : (a : StepsAnswer) → answerBack chosen S.Refused (asSteps a) ≡
 steps-undone (S.Chosen steps) = λ i. S.Chosen (record { scd = scd-named (steps .scd) i; ocd = ocd-named (steps .ocd) i })
 steps-undone (S.Refused e) = ap S.Refused (untold-told e)
 
+-- the values as the code has them
+abbrev pub calculated : Values → CalculatedValues
+calculated v = record {
+  «ocdscd_range_used» = v .range;
+  «scd_threshold» = record { 0 = v .scd };
+  «ocd_threshold» = record { 0 = v .ocd };
+  «uv_threshold» = record { 0 = v .uv };
+  «ov_threshold» = record { 0 = v .ov };
+}
+
 abbrev ready : Values → PlanAnswer
-ready v =
-    P.Ready
-    (record {
-      «ocdscd_range_used» = v .range;
-      «scd_threshold» = record { 0 = v .scd };
-      «ocd_threshold» = record { 0 = v .ocd };
-      «uv_threshold» = record { 0 = v .uv };
-      «ov_threshold» = record { 0 = v .ov };
-    })
+ready v = P.Ready (calculated v)
 
 answer-undone : (a : PlanAnswer) → answerBack ready P.Refused (asAnswer a) ≡ a
 answer-undone (P.Ready values) = refl

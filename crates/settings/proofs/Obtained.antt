@@ -1,19 +1,11 @@
 -- What the test of an asked voltage says.
 -- Assumes nothing.
-use mathlib.Core.Path.{_≡_, refl, sym, ap, _∙_}
-use mathlib.Core.Bool.{Bool, true, false, not, cond}
+use mathlib.Core.Path.{_≡_, sym, ap, _∙_}
+use mathlib.Core.Bool.{Bool, true, false, cond}
 use Prim.Native.Nat.{ℕ}
 use Rattle.refusals.specs.Refusal.{value, refused, no}
 use Rattle.adc.specs.declared.transfer.Limits.{Limits}
 use Rattle.settings.specs.Trips.{figures, obtainable, obtainableOr}
-
-pub not-true : (t : Bool) → not t ≡ true → t ≡ false
-not-true true e = sym e
-not-true false e = refl
-
-pub not-false : (t : Bool) → not t ≡ false → t ≡ true
-not-false true e = refl
-not-false false e = sym e
 
 module _ (n asked : ℕ) {found limits : Limits} (same : found ≡ limits) where
   tested : {t : Bool} → obtainable asked found ≡ t → obtainableOr n asked limits ≡ cond t (value tt) (refused (no n (figures found)))

@@ -10,6 +10,7 @@ use Rattle.protection.specs.Scd as scd
 use Rattle.protection.specs.Ocd as ocd
 use Rattle.settings.specs.Order.{_>>=_}
 use Rattle.settings.specs.declared.Config.{Config}
+use Rattle.settings.specs.declared.Steps.{Steps}
 use Rattle.settings.specs.declared.StepsAnswer.{StepsAnswer}
 use Rattle.settings.specs.declared.StepsAnswer.the-variants as S
 
@@ -32,6 +33,9 @@ stepsFor config =
     stepFor (ocdLower ++ ocdUpper) (config .«ocd_threshold» .0) shunt >>= λ ocd.
     value (record { scd = scd; ocd = ocd })
 
+abbrev pub inMv : Steps → InMv
+inMv steps = record { scd = scd.mvOf (steps .scd); ocd = ocd.mvOf (steps .ocd) }
+
 abbrev pub asSteps : StepsAnswer → Answer InMv
-asSteps (S.Chosen steps) = value (record { scd = scd.mvOf (steps .scd); ocd = ocd.mvOf (steps .ocd) })
+asSteps (S.Chosen steps) = value (inMv steps)
 asSteps (S.Refused e) = refused (told e)

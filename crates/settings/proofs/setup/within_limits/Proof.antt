@@ -1,9 +1,10 @@
 -- `settings::setup::within_limits` meets its contract. Assumes nothing.
+use borrow.Author.Tests.{not-true, not-false}
 use borrow.Author.Needs.{needs}
 use mathlib.Core.Path.{_≡_, sym, _∙_}
 use Rattle.refusals.specs.Refusal.{value}
 use Rattle.settings.specs.Trips.{ovLimits, obtainableOr, withinFor}
-use Rattle.settings.proofs.Obtained.{obtained, unobtained, not-true, not-false}
+use Rattle.settings.proofs.Obtained.{obtained, unobtained}
 use Rattle.settings.proofs.Order.{past, out}
 use Rattle.settings.proofs.setup.within_limits.Statement.{statement}
 use Rattle.settings.proofs.setup.within_limits.Tie as tie
