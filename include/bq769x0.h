@@ -1,55 +1,83 @@
-/* Setting up a BQ769x0 battery monitor: a job, a reply tape and a transfer log in; a number, 36 bytes and the log out. */
+/*
+ * A driver for the battery monitors BQ76920, BQ76930 and BQ76940 that is proved: setting one up by a job, alone or with a
+ * reading of its cells after it.
+ *
+ * Both functions work on bytes in memory and touch nothing else: they read what the bus answered from a tape and write what they
+ * sent into a log. Every number in a buffer stands with its high byte first.
+ *
+ *   job   field 20, the device, and field 21, the configuration: 34 bytes; more are not looked at
+ *           20 0004  X (5, 10 or 15), cells, 7-bit address, check bytes (0 or 1)
+ *           21 0018  shunt in microohms, SCD A, OCD A, UV mV, OV mV, four bytes each; codes of SCD, OCD, UV, OV delay
+ *   tape  a field for each transfer: 01, two bytes of length, the bytes read (none for a write); 02 where the bus faults, the
+ *         bytes delivered first
+ *   log   gets a field for each transfer: 11, two bytes of length, the address and every byte sent; 12, 0004, the address, the
+ *         register and two bytes of count. An init takes 52 bytes of it, 45 with check bytes, a cell reading 7 more; bytes that
+ *         no field takes are left as they were
+ *   list  four bytes a cell, in mV, below zero as 2^32 less the size; bytes past the count of cells are left as they were
+ *   out   BQ769X0_OUT bytes, all written whatever the answer
+ *
+ * No two buffers overlap, but that job and tape, which are only read, may. A buffer of length 0 may have any pointer.
+ */
 #ifndef BQ769X0_H
 #define BQ769X0_H
 
 #include <stddef.h>
 #include <stdint.h>
 
+#ifdef __cplusplus
+extern "C" {
+#endif
+
 /*
- * job   field 20, the device, and field 21, the configuration: 34 bytes; more are not looked at
- * tape  what the bus answers, a field a transfer
- * log   gets a field for each transfer made
- * out   36 bytes, all written, every number with its high byte first
- *
- * The call reads and writes tape and log as bytes in memory and does nothing else. log and out overlap neither each other
- * nor job nor tape, and no pointer is null, also where its length is 0.
- *
  * out
  *    0 to  7  how many bytes of the tape are used
  *    8 to 15  how many bytes of the log are used
  *
- *             number 0                        any other number
- *   16 to 19  the range: 0 lower, 1 upper,    how many figures the refusal names: 0, 1 or 2
- *             2 unknown
- *   20 to 23  SCD threshold in A              the first figure, 0 where there is none
- *   24 to 27  OCD threshold in A              the second figure, 0 where there is none
- *   28 to 31  UV threshold in mV              0
- *   32 to 35  OV threshold in mV              0
- *
- * The number
- *    0  accepted
- *    1  a check byte is wrong
- *    2  the bus reports a fault
- *    3  too many bytes for one transfer
- *    4  not initialised
- *    5  a register reads back otherwise than written; figure: the register
- *    6  SCD and OCD have no range in common
- *    7  the UV threshold cannot be had; figures: the lowest and the highest that can, in mV
- *    8  the OV threshold cannot be had; figures: the lowest and the highest that can, in mV
- *    9  no such device
- *   10  a count of cells that the device does not take
- *   11  an address over 127
- *   12  a shunt of 0, or over 2147483647 microohms
- *   13  a current too large
- *   14  registers past 255
- *   15  the job is no job, or the tape has no field that fits
- *   16  the tape has ended
- *   17  the log is full
- *   18  unknown flags
- *   19  no room
- *   20  unknown range
+ *             BQ769X0_OK                   any refusal
+ *   16 to 19  the range: 0 lower, 1 upper  how many figures the refusal names: 0, 1 or 2
+ *   20 to 23  SCD threshold in A           the first figure, 0 where there is none
+ *   24 to 27  OCD threshold in A           the second figure, 0 where there is none
+ *   28 to 31  UV threshold in mV           0
+ *   32 to 35  OV threshold in mV           0
  */
+#define BQ769X0_OUT 36
+
+/* What the functions return. A refusal leaves list as it was, and in log the transfers made before it, the faulted one included. */
+enum bq769x0_refusal {
+    BQ769X0_OK = 0,
+    BQ769X0_CRC_MISMATCH = 1,         /* a check byte of a read disagrees */
+    BQ769X0_I2C_ERROR = 2,            /* the tape says fault */
+    BQ769X0_BUF_TOO_LARGE = 3,        /* too many bytes for one transfer */
+    BQ769X0_UNINITIALIZED = 4,        /* a reading before init */
+    BQ769X0_VERIFY_ERROR = 5,         /* figure: the first register that reads back otherwise than written */
+    BQ769X0_RANGE_MISMATCH = 6,       /* SCD and OCD have no range in common */
+    BQ769X0_UV_UNOBTAINABLE = 7,      /* figures: the lowest and the highest UV threshold in mV */
+    BQ769X0_OV_UNOBTAINABLE = 8,      /* figures: the lowest and the highest OV threshold in mV */
+    BQ769X0_BAD_DEVICE = 9,           /* X is not 5, 10 or 15 */
+    BQ769X0_BAD_CELL_COUNT = 10,      /* not 3 to 5, 6 to 10, 9 to 15 cells for that X */
+    BQ769X0_BAD_ADDRESS = 11,         /* over 127 */
+    BQ769X0_BAD_SHUNT = 12,           /* 0, or over 2147483647 microohms */
+    BQ769X0_CURRENT_TOO_LARGE = 13,   /* a current times the shunt is 256000 or more */
+    BQ769X0_REGISTER_RUNS_OUT = 14,   /* a transfer would pass register FF */
+    BQ769X0_BAD_TAPE = 15,            /* the job is no job, or the tape has no field that fits the transfer */
+    BQ769X0_TAPE_ENDED = 16,          /* no field left for a transfer */
+    BQ769X0_LOG_FULL = 17,            /* no room for the transfer's field */
+    BQ769X0_UNKNOWN_FLAGS = 18,       /* a status reset with bit 6 */
+    BQ769X0_NO_ROOM = 19,             /* list is shorter than the count of cells */
+    BQ769X0_UNKNOWN_RANGE = 20        /* a code asked for range Unknown; neither function gives it */
+};
+
+/* Sets the device up. */
 uint8_t bq769x0_init(const uint8_t *job, size_t job_len, const uint8_t *tape, size_t tape_len, uint8_t *log, size_t log_len,
-                     uint8_t out[36]);
+                     uint8_t out[BQ769X0_OUT]);
+
+/* Sets the device up and, where that is accepted, reads its cells into list. out is as after bq769x0_init, the positions after
+ * the reading. */
+uint8_t bq769x0_init_cells(const uint8_t *job, size_t job_len, const uint8_t *tape, size_t tape_len, uint8_t *log, size_t log_len,
+                           uint8_t *list, size_t list_len, uint8_t out[BQ769X0_OUT]);
+
+#ifdef __cplusplus
+}
+#endif
 
 #endif

@@ -25,9 +25,13 @@ limits gain offset low high = record {
   high = record { 0 = asU32 (millivolts gain offset high) };
 }
 
--- the reading of an asked voltage in mV, rounded down; a gain of 0 is no device's
+-- the reading of an asked voltage in mV, rounded down
+abbrev pub readingOf : ℕ → ℤ → ℕ → ℤ
+readingOf gain offset asked = ((pos asked -ℤ offset) *ℤ pos 1000) ÷↓ gain
+
+-- the same, refused with 9 at a gain of 0, which is no device's
 abbrev pub askedReading : ℕ → ℤ → ℕ → Answer ℤ
-askedReading gain offset asked = refusedIf (eqb gain 0) 9 (value (((pos asked -ℤ offset) *ℤ pos 1000) ÷↓ gain))
+askedReading gain offset asked = refusedIf (eqb gain 0) 9 (value (readingOf gain offset asked))
 
 -- the code of a reading: a sixteenth of it, rounded down, its low eight bits
 abbrev pub tripCode : ℤ → ℕ

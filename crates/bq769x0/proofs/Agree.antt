@@ -7,23 +7,20 @@ use mathlib.Core.List.{List}
 use Rattle.laws.proofs.Inverse.{one-to-one}
 use Rattle.refusals.specs.Refusal.{Answer}
 use Rattle.refusals.proofs.Telling.{answerBack, untold-told}
-use Rattle.settings.specs.Plan.{Values}
-use Rattle.settings.proofs.Agree.{calculated}
+use Rattle.settings.specs.Plan.{Values, asInit}
+use Rattle.settings.proofs.Agree.{answer-agree}
 use Rattle.bus.specs.Transfers.{Bus}
 use Rattle.bus.specs.Programs.{Prog, Ran, ran, onTape}
 use Rattle.bus.specs.Raw.{Done, asRaw}
 use Rattle.bus.specs.declared.Cursor.{Cursor}
 use Rattle.bus.proofs.Agree.{raw-agree}
 use Rattle.bq769x0.specs.Record.{Left, leaves, asMade, asNew}
-use Rattle.bq769x0.specs.Init.{asInit}
 use Rattle.bq769x0.specs.declared.BQ769x0.{BQ769x0}
 use Rattle.bq769x0.specs.declared.record.New.{New}
 use Rattle.bq769x0.specs.declared.record.NewAnswer.{NewAnswer}
 use Rattle.bq769x0.specs.declared.record.NewAnswer.the-variants as N
 use Rattle.bq769x0.specs.declared.calibrate.Calibrated.{Calibrated}
 use Rattle.bq769x0.specs.declared.setting.Init.{Init}
-use Rattle.bq769x0.specs.declared.setting.InitAnswer.{InitAnswer}
-use Rattle.bq769x0.specs.declared.setting.InitAnswer.the-variants as I
 
 -- `new`
 made : Done → NewAnswer
@@ -43,21 +40,9 @@ new-agree r r′ e =
     let d = ap (λ (x : Left Done). x .device) e in
     λ i. record { answer = a i; device = d i }
 
--- the answer of `init`
-ready : Values → InitAnswer
-ready v = I.Ready (calculated v)
-
-init-undone : (a : InitAnswer) → answerBack ready I.Refused (asInit a) ≡ a
-unfolding ready
-init-undone (I.Ready values) = refl
-init-undone (I.Refused e) = ap I.Refused (untold-told e)
-
-pub answer-agree : (a b : InitAnswer) → asInit a ≡ asInit b → a ≡ b
-answer-agree = one-to-one asInit (answerBack ready I.Refused) init-undone
-
 -- a call that answers, leaves a record and moves the cursor, whatever its program
 module _ {A : Type 0} (p : Prog (Left A)) (b : Bus) where
-  left-agree : (a a′ : Answer A) (d d′ : BQ769x0) (log log′ : List ℕ) (at at′ : Cursor)
+  pub left-agree : (a a′ : Answer A) (d d′ : BQ769x0) (log log′ : List ℕ) (at at′ : Cursor)
       → ran (leaves a d) (b .tape) log at ≡ onTape p b
       → ran (leaves a′ d′) (b .tape) log′ at′ ≡ onTape p b
       → (a ≡ a′) × (d ≡ d′) × (at ≡ at′) × (log ≡ log′)

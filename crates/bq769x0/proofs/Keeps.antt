@@ -1,10 +1,10 @@
 -- `new` gives a sound record, and every call that leaves a record leaves a sound one sound, whatever tape and log hold.
 -- Assumes nothing.
-use mathlib.Core.Path.{_≡_, refl, sym, ap, subst, _∙_}
-use mathlib.Core.Bool.{Bool, true, false, not, _&&_, _||_}
+use mathlib.Core.Path.{_≡_, refl, ap, _∙_}
+use mathlib.Core.Bool.{Bool, true, false, true≢false, false≢true, not, _&&_, _||_, and-eq-true-iff}
 use mathlib.Core.List.{List}
 use Prim.Native.Nat.{ℕ, _≤_}
-use lib.Dec.{T, eqb, leb, ltb}
+use lib.Dec.{eqb, leb, ltb}
 use lib.ListN.{getD}
 use borrow.Author.Tests.{le-leb, ltb-false, ne-eqb}
 use native.Mathlib.Omega.{arith}
@@ -12,6 +12,7 @@ use Rattle.refusals.specs.Refusal.{Refusal, Answer, value, refused}
 use Rattle.adc.specs.Registers.{gainOf}
 use Rattle.adc.proofs.Gain.{gain-range}
 use Rattle.units.specs.declared.MicroOhms.{MicroOhms}
+use Rattle.units.specs.declared.MilliVolts.{MilliVolts}
 use Rattle.settings.specs.Steps.{InMv, badShunt}
 use Rattle.settings.specs.Plan.{Values}
 use Rattle.settings.specs.declared.Config.{Config}
@@ -20,7 +21,7 @@ use Rattle.bus.specs.Fields.{if_then_else_}
 use Rattle.bus.specs.Transfers.{Bus}
 use Rattle.bus.specs.Programs.{Prog, ret, Ran, onTape}
 use Rattle.bus.specs.Raw.{Done}
-use Rattle.bq769x0.specs.Record.{deviceFor, fresh, Left, leaves, leaving, nine, madeBy, newFor, accepts, calibratedRight, markedRight, Sound, isSound, withShunt}
+use Rattle.bq769x0.specs.Record.{deviceFor, fresh, Left, leaves, leaving, nine, madeBy, newFor, accepts, calibratedRight, markedRight, Sound, isSound, withShunt, withCells}
 use Rattle.bq769x0.specs.Calibrate.{calibrated, calibrate, readAdcCharacteristics}
 use Rattle.bq769x0.specs.Init.{onward, onwardBy, counting, setting, initBy}
 use Rattle.bq769x0.specs.declared.BQ769x0.{BQ769x0}
@@ -28,24 +29,17 @@ use Rattle.bq769x0.proofs.Always.{always, on-tape, always-after, always
 use Rattle.bq769x0.proofs.Soundly.{sound-on}
 
 -- ---- the test and the clauses
-not-both : {X : Type 0} → false ≡ true → X
-not-both e = absurd (subst T (sym e) tt)
-
-both : (a b : Bool) → (a && b) ≡ true → (a ≡ true) × (b ≡ true)
-both true b e = (refl, e)
-both false b e = not-both e
-
 accepted : (y : Answer Done) → accepts y ≡ true → y ≡ value tt
 accepted (value done) e = refl
-accepted (refused r) e = not-both e
+accepted (refused r) e = absurd (false≢true e)
 
 -- the test decides just soundness
 pub decides : (d : BQ769x0) → isSound d ≡ true → Sound d
 unfolding isSound
 decides d e =
-    let taken = both (accepts (deviceFor (d .x) (d .«dev_address») (d .«cell_count»))) (calibratedRight d && leb (d .shunt .0) 2147483647 && markedRight d) e in
-    let rest = both (calibratedRight d && leb (d .shunt .0) 2147483647) (markedRight d) (taken .1) in
-    let first = both (calibratedRight d) (leb (d .shunt .0) 2147483647) (rest .0) in
+    let taken = and-eq-true-iff (accepts (deviceFor (d .x) (d .«dev_address») (d .«cell_count»))) _ .0 e in
+    let rest = and-eq-true-iff (calibratedRight d && leb (d .shunt .0) 2147483647) _ .0 (taken .1) in
+    let first = and-eq-true-iff (calibratedRight d) _ .0 (rest .0) in
     record { device = accepted _ (taken .0); calibrated = first .0; shunted = first .1; marked = rest .1 }
 
 pub decided : (d : BQ769x0) → Sound d → isSound d ≡ true
@@ -70,7 +64,7 @@ some-gain b50 b59 = ne-eqb (gainOf b50 b59) 0 (none (gainOf b50 b59) (gain-range
 another-gain : (mark : Bool) (shunt : Bool) (gain gain′ : Bool) → gain′ ≡ false
     → (if mark then not shunt && not gain else shunt) ≡ true
     → (if mark then not shunt && not gain′ else shunt) ≡ true
-another-gain true shunt gain gain′ some e = rw (both (not shunt) (not gain) e .0, some)
+another-gain true shunt gain gain′ some e = rw (and-eq-true-iff (not shunt) (not gain) .0 e .0, some)
 another-gain false shunt gain gain′ some e = e
 
 pub calibrated-sound : (d : BQ769x0) (first second : List ℕ) → isSound d ≡ true → isSound (calibrated d first second) ≡ true
@@ -104,10 +98,15 @@ read-adc-keeps d b e =
     ap (λ (r : Ran (Left Done)). isSound (r .answer .device)) (sound-on d (leaving d nine) (calibrate d) b e)
     ∙ on-tape Kept (calibrate d) (calibrate-keeps d e) b
 
+-- ---- the cells, of which soundness does not speak
+pub cells-sound : (d : BQ769x0) (cells : List MilliVolts) → isSound (withCells d cells) ≡ isSound d
+unfolding isSound
+cells-sound d cells = refl
+
 -- ---- `init`, whatever way the steps are chosen
 neither : (a b : Bool) → (a || b) ≡ false → (a ≡ false) × (b ≡ false)
 neither false b e = (refl, e)
-neither true b e = not-both (sym e)
+neither true b e = absurd (true≢false e)
 
 -- a shunt that is not refused is stored with the mark
 shunted-sound : (d : BQ769x0) (shunt : MicroOhms) → isSound d ≡ true → badShunt (shunt .0) ≡ false → eqb (d .«adc_gain») 0 ≡ false

@@ -1,7 +1,7 @@
 pub mod Agree
-mod Always
-mod Calls
+pub mod Always
+pub mod Calls
 pub mod Keeps
-mod Soundly
+pub mod Soundly
 mod Stages
 mod Zero

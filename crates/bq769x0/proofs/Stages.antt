@@ -4,7 +4,7 @@ use mathlib.Core.Path.{_≡_, refl, sym, ap, _∙_}
 use Prim.Native.Nat.{ℕ}
 use mathlib.Core.List.{List}
 use Rattle.refusals.specs.Refusal.{Refusal, Answer, value, refused}
-use Rattle.settings.specs.Plan.{Values, Planned, Outcome, outcome, asAnswer, asPlan}
+use Rattle.settings.specs.Plan.{Values, Planned, Outcome, outcome, asInit, asPlan}
 use Rattle.settings.specs.declared.Plan.{Plan}
 use Rattle.bus.specs.Transfers.{Bus}
 use Rattle.bus.specs.Programs.{Prog, Ran, onTape, bind}
@@ -24,17 +24,17 @@ back (value planned) = refl
 back (refused r) = refl
 
 module _ (p : Plan) (y : Answer Planned) (e : asPlan p ≡ outcome y) where
-  plan-is : {z : Answer Values} → asAnswer (p .answer) ≡ z → y ≡ planBy z (p .regs)
+  plan-is : {z : Answer Values} → asInit (p .answer) ≡ z → y ≡ planBy z (p .regs)
   plan-is t =
       sym (back y)
       ∙ ap (λ (o : Outcome). planBy (o .answer) (o .regs)) (sym e)
       ∙ ap (λ (a : Answer Values). planBy a (p .regs)) t
 
-  pub plan-on : (v : Values) → asAnswer (p .answer) ≡ value v → y ≡ value (record { values = v; regs = p .regs })
+  pub plan-on : (v : Values) → asInit (p .answer) ≡ value v → y ≡ value (record { values = v; regs = p .regs })
   unfolding planBy
   plan-on v t = plan-is t
 
-  pub plan-off : (r : Refusal) → asAnswer (p .answer) ≡ refused r → y ≡ refused r
+  pub plan-off : (r : Refusal) → asInit (p .answer) ≡ refused r → y ≡ refused r
   unfolding planBy
   plan-off r t = plan-is t
 

@@ -3,9 +3,9 @@
 use mathlib.Core.List.{[], _∷_}
 use lib.Bits.{bitOr}
 use lib.ListN.{getD}
-use Rattle.refusals.specs.Refusal.{Answer, value, refused, told}
+use Rattle.refusals.specs.Refusal.{Answer, value, refused}
 use Rattle.settings.specs.Steps.{InMv}
-use Rattle.settings.specs.Plan.{Values, planFor, asValues}
+use Rattle.settings.specs.Plan.{Values, planFor}
 use Rattle.settings.specs.declared.Config.{Config}
 use Rattle.bus.specs.Programs.{Prog, ret, bind, _orLeave_, _>>=_}
 use Rattle.bus.specs.Raw.{readBytes, writeRaw}
@@ -13,12 +13,6 @@ use Rattle.bq769x0.specs.Record.{Left, leaves, leaving, nine, setupOf, w
 use Rattle.bq769x0.specs.Registers.{soundly}
 use Rattle.bq769x0.specs.Calibrate.{calibrate}
 use Rattle.bq769x0.specs.declared.BQ769x0.{BQ769x0}
-use Rattle.bq769x0.specs.declared.setting.InitAnswer.{InitAnswer}
-use Rattle.bq769x0.specs.declared.setting.InitAnswer.the-variants as I
-
-abbrev pub asInit : InitAnswer → Answer Values
-asInit (I.Ready values) = value (asValues values)
-asInit (I.Refused e) = refused (told e)
 
 -- a refusal, whatever was to be answered; asked of refusals only
 abbrev pub refusalOf : {A B : Type 0} → Answer A → Answer B

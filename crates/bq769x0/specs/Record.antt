@@ -1,9 +1,9 @@
--- The driver's record: what `new` gives, when a record is sound, and the two ways in which setting up changes it.
+-- The driver's record: what `new` gives, when a record is sound, and the ways in which calls change it.
 -- Assumes nothing.
 use Prim.Native.Nat.{ℕ}
 use mathlib.Core.Bool.{Bool, true, false, not, _&&_, _||_}
 use mathlib.Core.Path.{_≡_}
-use mathlib.Core.List.{[]}
+use mathlib.Core.List.{List, []}
 use lib.Dec.{eqb, leb, ltb}
 use lib.IntN.{ℤ, pos, negsuc}
 use lib.ListN.{replicate}
@@ -13,6 +13,7 @@ use Rattle.bus.specs.Raw.{Done}
 use Rattle.bus.specs.declared.raw.Setup.{Setup}
 use Rattle.adc.specs.declared.transfer.AdcTransferFunction.{AdcTransferFunction}
 use Rattle.units.specs.declared.MicroOhms.{MicroOhms}
+use Rattle.units.specs.declared.MilliVolts.{MilliVolts}
 use Rattle.bq769x0.specs.declared.BQ769x0.{BQ769x0}
 use Rattle.bq769x0.specs.declared.record.New.{New}
 use Rattle.bq769x0.specs.declared.record.NewAnswer.{NewAnswer}
@@ -140,4 +141,17 @@ withShunt d shunt = record {
   shunt = shunt;
   «cell_count» = d .«cell_count»;
   cells = d .cells;
+}
+
+abbrev pub withCells : BQ769x0 → List MilliVolts → BQ769x0
+withCells d cells = record {
+  x = d .x;
+  «dev_address» = d .«dev_address»;
+  check = d .check;
+  «init_complete» = d .«init_complete»;
+  «adc_gain» = d .«adc_gain»;
+  «adc_offset» = d .«adc_offset»;
+  shunt = d .shunt;
+  «cell_count» = d .«cell_count»;
+  cells = cells;
 }

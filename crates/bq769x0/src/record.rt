@@ -1,6 +1,6 @@
 // The record: made by `new` alone, changed by the setters below, and sound or not.
 ghost use mathlib.Core.Path.{_≡_};
-ghost use Rattle.bq769x0.specs.Record.{isSize, isCount, deviceFor, asMade, asNew, newFor, fresh, calibratedRight, markedRight, isSound, setupOf, adcOf, withCalibration, withShunt};
+ghost use Rattle.bq769x0.specs.Record.{isSize, isCount, deviceFor, asMade, asNew, newFor, fresh, calibratedRight, markedRight, isSound, setupOf, adcOf, withCalibration, withShunt, withCells};
 use crate::BQ769x0;
 use adc::transfer::AdcTransferFunction;
 use bus::raw::Setup;
@@ -109,7 +109,7 @@ impl BQ769x0 {
         }
     }
 
-    pub(crate) fn adc_transfer_function(self) -> AdcTransferFunction
+    pub fn adc_transfer_function(self) -> AdcTransferFunction
         ensures { λ r. ⌜ r ≡ adcOf self ⌝ }
     {
         AdcTransferFunction {
@@ -133,6 +133,15 @@ impl BQ769x0 {
         let mut device = self;
         device.shunt = shunt;
         device.init_complete = true;
+        device
+    }
+
+    // Soundness does not speak of the cells.
+    pub fn store_cells(self, cells: [MilliVolts; 15]) -> BQ769x0
+        ensures { λ r. ⌜ r ≡ withCells self cells ⌝ }
+    {
+        let mut device = self;
+        device.cells = cells;
         device
     }
 }

@@ -3,25 +3,20 @@ ghost use mathlib.Core.Path.{_≡_};
 ghost use Rattle.bus.specs.Transfers.{busOf};
 ghost use Rattle.bus.specs.Programs.{onTape, ran};
 ghost use Rattle.settings.specs.Steps.{inMv, asSteps, stepsFor};
-ghost use Rattle.settings.specs.Plan.{asAnswer, asValues};
+ghost use Rattle.settings.specs.Plan.{asInit, asValues};
 ghost use Rattle.bus.specs.Raw.{asRaw};
 ghost use Rattle.bq769x0.specs.Record.{leaves};
-ghost use Rattle.bq769x0.specs.Init.{asInit, refusalOf, counting, setting, initBy};
+ghost use Rattle.bq769x0.specs.Init.{refusalOf, counting, setting, initBy};
 use crate::BQ769x0;
 use bus::Cursor;
 use bus::raw::RawAnswer;
 use refusals::Error;
 use settings::CalculatedValues;
 use settings::Config;
-use settings::PlanAnswer;
+use settings::InitAnswer;
 use settings::Steps;
 use settings::StepsAnswer;
 use settings::setup;
-
-pub enum InitAnswer {
-    Ready(CalculatedValues),
-    Refused(Error),
-}
 
 pub struct Init {
     pub answer: InitAnswer,
@@ -38,16 +33,8 @@ fn of_steps(answer: StepsAnswer) -> InitAnswer
     }
 }
 
-fn of_plan(answer: PlanAnswer) -> InitAnswer
-    ensures { λ r. ⌜ asInit r ≡ refusalOf (asAnswer answer) ⌝ }
-{
-    match answer {
-        PlanAnswer::Ready(_) => InitAnswer::Refused(Error::BadDevice),
-        PlanAnswer::Refused(e) => InitAnswer::Refused(e),
-    }
-}
-
-fn of_raw(answer: RawAnswer) -> InitAnswer
+// A refusal of a transfer, as an answer of `init`.
+pub fn of_raw(answer: RawAnswer) -> InitAnswer
     ensures { λ r. ⌜ asInit r ≡ refusalOf (asRaw answer) ⌝ }
 {
     match answer {
@@ -98,9 +85,9 @@ impl BQ769x0 {
         let plan = setup::plan(self.adc_transfer_function(), config, steps);
         let planned = plan.answer;
         let regs = plan.regs;
-        let PlanAnswer::Ready(values) = planned else {
+        let InitAnswer::Ready(values) = planned else {
             return Init {
-                answer: of_plan(planned),
+                answer: planned,
                 device: self,
                 at,
             };

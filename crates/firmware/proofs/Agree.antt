@@ -1,29 +1,30 @@
--- Two outcomes that meet one promise agree: in the answer, the tape's and the log's position and the log's bytes; and, for C, in the number,
--- the 36 bytes and the log's bytes.
+-- Two outcomes that meet one promise agree. `init` has the promise of the driver's `init`, of which `init-agree` there speaks, whatever the
+-- program; with a cell reading the lent list agrees too; and for C the number, the 36 bytes, the log's bytes and the list's.
 -- Assumes nothing.
 use mathlib.Core.Path.{_≡_, sym, ap, _∙_}
 use Prim.Native.Nat.{ℕ}
 use mathlib.Core.List.{List}
-use Rattle.refusals.specs.Refusal.{Answer}
-use Rattle.settings.specs.Plan.{Values}
 use Rattle.bus.specs.Transfers.{Bus}
 use Rattle.bus.specs.Programs.{Prog, Ran, ran, onTape}
-use Rattle.bq769x0.specs.Init.{asInit}
-use Rattle.bq769x0.proofs.Agree.{answer-agree}
+use Rattle.settings.specs.Plan.{asInit}
+use Rattle.bq769x0.specs.declared.setting.Init.{Init}
+use Rattle.settings.proofs.Agree.{answer-agree}
 use Rattle.firmware.specs.Layout.{Handed, handed}
-use Rattle.firmware.specs.declared.JobInit.{JobInit}
+use Rattle.firmware.specs.JobCells.{Listed, listed, HandedList}
 
--- `init`
-pub init-agree : (p : Prog (Answer Values)) (b : Bus) (r r′ : JobInit) (log log′ : List ℕ)
-    → ran (asInit (r .answer)) (b .tape) log (r .at) ≡ onTape p b
-    → ran (asInit (r′ .answer)) (b .tape) log′ (r′ .at) ≡ onTape p b
-    → (r ≡ r′) × (log ≡ log′)
-init-agree p b r r′ log log′ e e′ =
+-- `init_cells`
+pub cells-agree : (p : Prog Listed) (b : Bus) (r r′ : Init) (list list′ log log′ : List ℕ)
+    → ran (listed (asInit (r .answer)) (r .device) list) (b .tape) log (r .at) ≡ onTape p b
+    → ran (listed (asInit (r′ .answer)) (r′ .device) list′) (b .tape) log′ (r′ .at) ≡ onTape p b
+    → (r ≡ r′) × (list ≡ list′) × (log ≡ log′)
+cells-agree p b r r′ list list′ log log′ e e′ =
     let same = e ∙ sym e′ in
-    let answers = answer-agree (r .answer) (r′ .answer) (ap (λ (x : Ran (Answer Values)). x .answer) same) in
-    let places = ap (λ (x : Ran (Answer Values)). x .bus .at) same in (
-      λ i. record { answer = answers i; at = places i },
-      ap (λ (x : Ran (Answer Values)). x .bus .log) same,
+    let answers = answer-agree (r .answer) (r′ .answer) (ap (λ (x : Ran Listed). x .answer .left .answer) same) in
+    let devices = ap (λ (x : Ran Listed). x .answer .left .device) same in
+    let places = ap (λ (x : Ran Listed). x .bus .at) same in (
+      λ i. record { answer = answers i; device = devices i; at = places i },
+      ap (λ (x : Ran Listed). x .answer .list) same,
+      ap (λ (x : Ran Listed). x .bus .log) same,
     )
 
 -- `bq769x0_init`
@@ -34,4 +35,13 @@ handed-agree x n n′ out out′ log log′ e e′ =
       ap (λ (h : Handed). h .number) same,
       ap (λ (h : Handed). h .out) same,
       ap (λ (h : Handed). h .log) same,
+    )
+
+-- `bq769x0_init_cells`
+pub list-agree : (x : HandedList) (h h′ : Handed) (list list′ : List ℕ)
+    → record { handed = h; list = list } ≡ x → record { handed = h′; list = list′ } ≡ x → (h ≡ h′) × (list ≡ list′)
+list-agree x h h′ list list′ e e′ =
+    let same = e ∙ sym e′ in (
+      ap (λ (y : HandedList). y .handed) same,
+      ap (λ (y : HandedList). y .list) same,
     )

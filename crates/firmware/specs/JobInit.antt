@@ -1,6 +1,7 @@
--- A job set up, as a program: the job that bytes begin with, the device that it names, and that device's `init`; the record is dropped.
+-- A job set up, as a program: the job that bytes begin with, the device that it names, and that device's `init`.
 -- Assumes nothing.
 use Prim.Native.Nat.{ℕ}
+use mathlib.Core.Bool.{false}
 use mathlib.Core.List.{List}
 use Rattle.refusals.specs.Refusal.{Answer, value, refused}
 use Rattle.settings.specs.Steps.{stepsFor}
@@ -8,9 +9,9 @@ use Rattle.settings.specs.Plan.{Values}
 use Rattle.job.specs.Jobs.{jobOf, asJob}
 use Rattle.job.specs.declared.Device.{Device}
 use Rattle.job.specs.declared.JobAnswer.{JobAnswer}
-use Rattle.bus.specs.Programs.{Prog, ret, bind, _orLeave_, _>>=_}
+use Rattle.bus.specs.Programs.{Prog, ret, _orLeave_, _>>=_}
 use Rattle.bus.specs.declared.Cursor.{Cursor}
-use Rattle.bq769x0.specs.Record.{Left, asMade, newFor}
+use Rattle.bq769x0.specs.Record.{Left, leaving, fresh, asMade, newFor}
 use Rattle.bq769x0.specs.Init.{refusalOf, initBy}
 use Rattle.bq769x0.specs.declared.BQ769x0.{BQ769x0}
 use Rattle.bq769x0.specs.declared.record.NewAnswer.{NewAnswer}
@@ -18,6 +19,10 @@ use Rattle.bq769x0.specs.declared.record.NewAnswer.{NewAnswer}
 -- tape and log unused
 abbrev pub start : Cursor
 start = record { tape = 0; log = 0 }
+
+-- no device: one of size 0, on which every call is refused
+abbrev pub noDevice : BQ769x0
+noDevice = fresh 0 0 0 false
 
 -- the record where it is made
 abbrev pub madeOf : {A : Type 0} → Answer A → BQ769x0 → Answer BQ769x0
@@ -29,14 +34,11 @@ deviceMade d =
     let new = newFor (d .x) (d .address) (d .cells) (d .check) in
     madeOf (new .answer) (new .device)
 
-abbrev pub dropped : {A : Type 0} → Left A → Prog (Answer A)
-dropped left = ret (left .answer)
-
-unfoldable pub jobInit : List ℕ → Prog (Answer Values)
+unfoldable pub jobInit : List ℕ → Prog (Left Values)
 jobInit bytes = do
-  job ← ret (jobOf bytes) orLeave refused
-  device ← ret (deviceMade (job .device)) orLeave refused
-  bind (initBy stepsFor device (job .config)) dropped
+  job ← ret (jobOf bytes) orLeave leaving noDevice
+  device ← ret (deviceMade (job .device)) orLeave leaving noDevice
+  initBy stepsFor device (job .config)
 
 -- ---- a refusal before the init
 abbrev pub asNoJob : JobAnswer → Answer Values

@@ -13,6 +13,7 @@ use Rattle.settings.specs.Plan.{Values}
 use Rattle.job.specs.Encoding.{four}
 use Rattle.bus.specs.Programs.{Ran}
 use Rattle.bus.specs.declared.Cursor.{Cursor}
+use Rattle.bq769x0.specs.Record.{Left}
 use Rattle.firmware.specs.declared.layout.Five.{Five}
 
 -- the eight bytes of a number below 2^64
@@ -56,5 +57,5 @@ pub record Handed : Type 0 where
 abbrev pub handed : ℕ → List ℕ → List ℕ → Handed
 handed number out log = record { number = number; out = out; log = log }
 
-abbrev pub asC : Ran (Answer Values) → Handed
-asC r = handed (numberOf (r .answer)) (layout (r .answer) (r .bus .at)) (r .bus .log)
+abbrev pub asC : Ran (Left Values) → Handed
+asC r = handed (numberOf (r .answer .answer)) (layout (r .answer .answer) (r .bus .at)) (r .bus .log)

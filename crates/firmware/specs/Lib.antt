@@ -1,2 +1,3 @@
 pub mod JobInit
 pub mod Layout
+pub mod JobCells

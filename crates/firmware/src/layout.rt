@@ -4,11 +4,11 @@ ghost use Prim.Native.Nat.{_+_, _≤_};
 ghost use lib.ListN.{length};
 ghost use Rattle.frames.specs.Put.{put};
 ghost use Rattle.job.specs.Encoding.{four};
-ghost use Rattle.bq769x0.specs.Init.{asInit};
+ghost use Rattle.settings.specs.Plan.{asInit};
 ghost use Rattle.firmware.specs.Layout.{eight, rangeNumber, figuresOf, numberOf, laid};
-use bq769x0::setting::InitAnswer;
 use bus::Cursor;
 use protection::range::OCDSCDRange;
+use settings::InitAnswer;
 
 // The five numbers after the positions.
 pub struct Five(pub u32, pub u32, pub u32, pub u32, pub u32);
@@ -54,7 +54,7 @@ pub(crate) fn number(answer: InitAnswer) -> u8
 }
 
 // Four bytes, high first.
-fn put4(out: &mut [u8], at: usize, n: u32)
+pub(crate) fn put4(out: &mut [u8], at: usize, n: u32)
     requires { ⌜ at + 4 ≤ length (now out) ⌝ }
     ensures { λ _. ⌜ now (out .exit) ≡ put (now (out .entry)) at (four n) ⌝ }
 {

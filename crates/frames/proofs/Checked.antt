@@ -1,7 +1,7 @@
 -- A frame with check bytes: what is made of data is right and carries that data, and a right frame is what is made of the data it carries.
 -- Assumes nothing.
 use mathlib.Core.Path.{_≡_, refl, ap, ap₂, _∙_}
-use mathlib.Core.Bool.{Bool, true, false, false≢true, _&&_}
+use mathlib.Core.Bool.{true, false≢true, _&&_, and-eq-true-iff}
 use mathlib.Core.List.{List, [], _∷_, _++_}
 use Prim.Native.Nat.{ℕ, _+_, _*_, _%_}
 use native.Mathlib.Omega.{arith}
@@ -34,17 +34,13 @@ data-checked before (x ∷ bytes) = ap (_∷_ x) (data-checked [] bytes)
 pub same-data : (before a b : List ℕ) → checked before a ≡ checked before b → a ≡ b
 same-data before = one-to-one (checked before) dataOf (data-checked before)
 
-both : (a b : Bool) → (a && b) ≡ true → (a ≡ true) × (b ≡ true)
-both true b e = (refl, e)
-both false b e = absurd (false≢true e)
-
 -- a right frame is the frame of what it carries, and of nothing else
 pub checked-data : (before frame : List ℕ) → right before frame ≡ true → frame ≡ checked before (dataOf frame)
 unfolding checked right dataOf
 checked-data before [] e = refl
 checked-data before (x ∷ []) e = absurd (false≢true e)
 checked-data before (x ∷ c ∷ rest) e =
-    let h = both (eqb c (checkByte (before ++ x ∷ []))) (right [] rest) e in
+    let h = and-eq-true-iff (eqb c (checkByte (before ++ x ∷ []))) (right [] rest) .0 e in
     ap₂ (λ (k : ℕ) (l : List ℕ). x ∷ k ∷ l) (eqb-true _ _ (h .0)) (checked-data [] rest (h .1))
 
 pub length-right : (before frame : List ℕ) → right before frame ≡ true → length frame ≡ 2 * length (dataOf frame)

@@ -9,11 +9,12 @@ use native.Mathlib.Numerals.{unary-clauses}
 use native.Mathlib.Omega.{arith}
 use lib.ListN.{length, drop}
 use lib.Seq.{drop-cons}
-use lib.Dec.{T, eqb, ltb, eqb→eq}
+use lib.Dec.{eqb, ltb, eqb→eq}
 use borrow.Author.Tests.{le-leb}
 use Rattle.laws.proofs.Tests.{below}
 use Rattle.signed.specs.Numbers.{word}
-use Rattle.refusals.specs.Refusal.{Answer, value, refused, no}
+use Rattle.refusals.specs.Refusal.{value, refused, no}
+use Rattle.settings.proofs.Values.{refused-not, same-value}
 use Rattle.job.specs.Jobs.{byteAt, numberAt, isJob, deviceOf, configOf, jobOf}
 use Rattle.job.specs.Encoding.{four, zeroOrOne, deviceValue, configValue, field, fieldsOf}
 use Rattle.job.specs.declared.Job.{Job}
@@ -156,18 +157,9 @@ module _ (bytes : List ℕ) (small : (i : ℕ) → byteAt bytes i < 256) where
       ∙ ap (λ (d : List ℕ). (d ++ from bytes 7 27) ++ drop 34 bytes) (sym (device-written t))
       ∙ ap (λ (c : List ℕ). (field 0x20 (deviceValue (deviceOf bytes)) ++ c) ++ drop 34 bytes) (sym (config-written t))
 
-  is-value : Answer Job → Bool
-  is-value (value j) = true
-  is-value (refused r) = false
-
-  or-found : Answer Job → Job
-  or-found (value j) = j
-  or-found (refused r) = found
-
   job-if : (b : Bool) → isJob bytes ≡ b → (j : Job) → cond b (value found) (refused (no 15 [])) ≡ value j → bytes ≡ fieldsOf j ++ drop 34 bytes
-  unfolding is-value or-found
-  job-if true e j q = subst (λ (k : Job). bytes ≡ fieldsOf k ++ drop 34 bytes) (ap or-found q) (written (tested bytes e))
-  job-if false e j q = absurd (subst T (sym (ap is-value q)) tt)
+  job-if true e j q = subst (λ (k : Job). bytes ≡ fieldsOf k ++ drop 34 bytes) (same-value q) (written (tested bytes e))
+  job-if false e j q = refused-not q
 
   pub job-written : (j : Job) → jobOf bytes ≡ value j → bytes ≡ fieldsOf j ++ drop 34 bytes
   unfolding jobOf

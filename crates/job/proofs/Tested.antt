@@ -1,10 +1,9 @@
 -- What bytes that are a job's have been tested for.
 -- Assumes nothing.
-use mathlib.Core.Path.{_≡_, refl, sym, subst}
-use mathlib.Core.Bool.{Bool, true, false, _&&_}
+use mathlib.Core.Path.{_≡_}
+use mathlib.Core.Bool.{true, and-eq-true-iff}
 use Prim.Native.Nat.{ℕ, _+_, _<_}
 use mathlib.Core.List.{List}
-use lib.Dec.{T}
 use borrow.Author.Tests.{ltb-true, leb-true, eqb-true}
 use Rattle.signed.specs.Numbers.{word}
 use Rattle.job.specs.Jobs.{byteAt, isField, isJob, Listed}
@@ -20,25 +19,21 @@ pub record Tested (bytes : List ℕ) : Type 0 where
   pub config : Field bytes 7 0x21 24
   pub codes : Listed bytes
 
-both : (a b : Bool) → a && b ≡ true → (a ≡ true) × (b ≡ true)
-both true b e = (refl, e)
-both false b e = absurd (subst T (sym e) tt)
-
 is-field : (bytes : List ℕ) (i tag len : ℕ) → isField bytes i tag len ≡ true → Field bytes i tag len
 is-field bytes i tag len e =
-    let t = both _ _ e in
+    let t = and-eq-true-iff _ _ .0 e in
     record { tagged = eqb-true _ _ (t .0); sized = eqb-true _ _ (t .1) }
 
 pub tested : (bytes : List ℕ) → isJob bytes ≡ true → Tested bytes
 unfolding isJob
 tested bytes e =
-    let ov = both _ _ e in
-    let uv = both _ _ (ov .0) in
-    let ocd = both _ _ (uv .0) in
-    let scd = both _ _ (ocd .0) in
-    let config = both _ _ (scd .0) in
-    let check = both _ _ (config .0) in
-    let device = both _ _ (check .0) in
+    let ov = and-eq-true-iff _ _ .0 e in
+    let uv = and-eq-true-iff _ _ .0 (ov .0) in
+    let ocd = and-eq-true-iff _ _ .0 (uv .0) in
+    let scd = and-eq-true-iff _ _ .0 (ocd .0) in
+    let config = and-eq-true-iff _ _ .0 (scd .0) in
+    let check = and-eq-true-iff _ _ .0 (config .0) in
+    let device = and-eq-true-iff _ _ .0 (check .0) in
     record {
       device = is-field bytes 0 0x20 4 (device .1);
       check = ltb-true _ _ (check .1);

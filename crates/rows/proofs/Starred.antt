@@ -3,10 +3,15 @@
 use mathlib.Core.Path.{_≡_, refl}
 use mathlib.Core.List.{map}
 use Rattle.protection.specs.Steps.{step, mvAcross}
-use Rattle.protection.specs.Ranges.{rangeFor}
+use Rattle.protection.specs.Ranges.{rangeFor, codeFor}
 use Rattle.check_byte.specs.CheckByte.{checkByte, divide, line, coefficient, divisor, number}
+use Rattle.settings.specs.Order.{_>>=_}
+use Rattle.settings.specs.Plan.{setFor, planFor}
+use Rattle.settings.specs.Registers.{protectFor}
+use Rattle.settings.specs.Steps.{shuntFor, stepsFor}
+use Rattle.settings.specs.Trips.{tripCodeFor, obtainableOr, withinFor}
 use Rattle.rows.specs.Rows.{Row, starred}
 
 pub starred-hold : map (λ (row : Row). row .0) starred ≡ map (λ (row : Row). row .1) starred
-unfolding step mvAcross rangeFor checkByte divide line coefficient divisor number
+unfolding step mvAcross rangeFor codeFor checkByte divide line coefficient divisor number setFor planFor _>>=_ shuntFor stepsFor tripCodeFor obtainableOr withinFor protectFor
 starred-hold = refl

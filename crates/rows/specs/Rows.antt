@@ -1,18 +1,23 @@
 -- The starred rows of the scope's table: what the definitions give, and what the table says. An answer is a list of numbers, or a refusal.
 -- Assumes nothing.
 use Prim.Native.Nat.{ℕ}
-use mathlib.Core.List.{List, [], _∷_, _++_}
+use mathlib.Core.List.{List, [], _∷_, map}
 use lib.IntN.{ℤ, pos, negℤ}
 use Rattle.signed.specs.Numbers.{asU32, asI8, asI16, word}
 use Rattle.refusals.specs.Refusal.{Answer, value, refused, no}
-use Rattle.protection.specs.Steps.{scdLower, scdUpper, ocdLower, ocdUpper, step, stepFor}
-use Rattle.protection.specs.Ranges.{rangeFor, forBoth, codeIn}
-use Rattle.protection.specs.declared.range.OCDSCDRange.{OCDSCDRange}
-use Rattle.protection.specs.declared.range.OCDSCDRange.the-variants as R
+use Rattle.protection.specs.declared.delays.SCDDelay.the-variants as S
+use Rattle.protection.specs.declared.delays.OCDDelay.the-variants as O
+use Rattle.protection.specs.declared.delays.UVDelay.the-variants as U
+use Rattle.protection.specs.declared.delays.OVDelay.the-variants as W
 use Rattle.adc.specs.Registers.{gainOf}
 use Rattle.adc.specs.Conversion.{millivolts, milliamperes}
-use Rattle.adc.specs.Trips.{uvTrip, askedReading, tripCode}
+use Rattle.measuring.specs.Cells.{inputsOf}
 use Rattle.check_byte.specs.CheckByte.{checkByte}
+use Rattle.settings.specs.Order.{_>>=_}
+use Rattle.settings.specs.Steps.{stepsFor}
+use Rattle.settings.specs.Plan.{Values, planFor}
+use Rattle.settings.specs.Fields.{Fields, readBack}
+use Rattle.settings.specs.declared.Config.{Config}
 
 abbrev pub Row : Type 0
 Row = Answer (List ℤ) × Answer (List ℤ)
@@ -20,32 +25,42 @@ Row = Answer (List ℤ) × Answer (List ℤ)
 abbrev is : ℤ → Answer (List ℤ)
 is z = value (z ∷ [])
 
-abbrev then : {A B : Type 0} → (A → Answer B) → Answer A → Answer B
-then f (value a) = f a
-then f (refused r) = refused r
+-- two currents in A at 1000 µΩ, UV and OV in mV; no row depends on the delays
+abbrev config : ℕ → ℕ → ℕ → ℕ → Config
+config scd ocd uv ov = record {
+  shunt = record { 0 = 1000 };
+  «scd_delay» = S.«_200uS»;
+  «scd_threshold» = record { 0 = scd };
+  «ocd_delay» = O.«_320ms»;
+  «ocd_threshold» = record { 0 = ocd };
+  «uv_delay» = U.«_4s»;
+  «uv_threshold» = record { 0 = uv };
+  «ov_delay» = W.«_4s»;
+  «ov_threshold» = record { 0 = ov };
+}
 
--- the code of an asked voltage at gain 365 and offset 0; for UV also what that code stands for
-abbrev ov : ℕ → Answer (List ℤ)
-ov asked = then (λ reading. is (pos (tripCode reading))) (askedReading 365 (pos 0) asked)
-
-abbrev uvOf : ℕ → Answer (List ℤ)
-uvOf code = value (pos code ∷ pos (asU32 (millivolts 365 (pos 0) (uvTrip code))) ∷ [])
+-- of what a configuration is set up with at gain 365 and offset 0: fields of the six bytes written, and values reported
+abbrev setUp : (Fields → Values → List ℤ) → Config → Answer (List ℤ)
+setUp shown c =
+    stepsFor c >>= λ steps.
+    planFor 365 (pos 0) c (steps .scd) (steps .ocd) >>= λ plan.
+    value (shown (readBack (plan .regs)) (plan .values))
 
 abbrev uv : ℕ → Answer (List ℤ)
-uv asked = then (λ reading. uvOf (tripCode reading)) (askedReading 365 (pos 0) asked)
+uv asked = setUp (λ fields values. pos (fields .uvTrip) ∷ pos (values .uv) ∷ []) (config 50 20 asked 4200)
 
--- the range, 1 for upper, and both codes there, of the steps for two currents at 1000 µΩ
-abbrev codes : ℕ → ℕ → OCDSCDRange → Answer (List ℤ)
-codes scd ocd R.Lower = value (pos 0 ∷ pos (codeIn scdLower scd) ∷ pos (codeIn ocdLower ocd) ∷ [])
-codes scd ocd R.Upper = value (pos 1 ∷ pos (codeIn scdUpper scd) ∷ pos (codeIn ocdUpper ocd) ∷ [])
-codes scd ocd R.Unknown = refused (no 20 [])
+abbrev ov : ℕ → Answer (List ℤ)
+ov asked = setUp (λ fields values. pos (fields .ovTrip) ∷ []) (config 50 20 2800 asked)
 
-abbrev steps : ℕ → ℕ → Answer (List ℤ)
-steps scd ocd = then (codes scd ocd) (forBoth (rangeFor scdLower scdUpper scd) (rangeFor ocdLower ocdUpper ocd))
-
+-- the range, 1 for upper, and both codes there
 abbrev both : ℕ → ℕ → Answer (List ℤ)
 both scd ocd =
-    then (λ s. then (steps s) (stepFor (ocdLower ++ ocdUpper) ocd 1000)) (stepFor (scdLower ++ scdUpper) scd 1000)
+    setUp
+    (λ fields values. pos (fields .rsns) ∷ pos (fields .scdThresh) ∷ pos (fields .ocdThresh) ∷ [])
+    (config scd ocd 2800 4200)
+
+abbrev scdStep : ℕ → Answer (List ℤ)
+scdStep scd = stepsFor (config scd 20 2800 4200) >>= λ steps. is (pos (steps .scd))
 
 abbrev pub starred : List Row
 starred =
@@ -58,9 +73,10 @@ starred =
     (uv 2984, value (pos 0xFE ∷ pos 2978 ∷ [])) ∷
     (ov 2993, is (pos 0x00)) ∷
     (ov 4482, is (pos 0xFF)) ∷
-    (then (λ mv. is (pos mv)) (stepFor (scdLower ++ scdUpper) 255 1000), is (pos 200)) ∷
+    (scdStep 255, is (pos 200)) ∷
     (both 100 55, refused (no 6 [])) ∷
     (both 44 44, value (pos 0 ∷ pos 0x2 ∷ pos 0xD ∷ [])) ∷
-    (then is (milliamperes (asI16 (word 0xFF 0xFF)) 1000), is (negℤ (pos 8))) ∷
+    (milliamperes (asI16 (word 0xFF 0xFF)) 1000 >>= is, is (negℤ (pos 8))) ∷
+    (value (map pos (inputsOf 10 10)), value (map pos (1 ∷ 2 ∷ 3 ∷ 5 ∷ 5 ∷ 6 ∷ 7 ∷ 10 ∷ 9 ∷ 10 ∷ []))) ∷
     (is (pos (checkByte (0x01 ∷ []))), is (pos 0x07)) ∷
     []

@@ -1,18 +1,21 @@
-// The rows of the scope's table that need no bus, and the check byte's published vectors: each is run, and printed with what it should be.
+// The rows of the scope's table, and the check byte's published vectors: each is run, and printed with what it should be.
+mod cells;
 mod print;
 
 use adc::counter;
 use adc::counter::CurrentAnswer;
 use adc::transfer::AdcTransferFunction;
-use adc::transfer::Asked;
-use adc::trips;
-use protection::ocd::OCDThreshold;
-use protection::range;
-use protection::range::Code;
-use protection::range::OCDSCDRange;
-use protection::range::RangeAnswer;
+use protection::delays::OCDDelay;
+use protection::delays::OVDelay;
+use protection::delays::SCDDelay;
+use protection::delays::UVDelay;
 use protection::scd::SCDStep;
 use protection::scd::SCDThreshold;
+use settings::Config;
+use settings::InitAnswer;
+use settings::Plan;
+use settings::StepsAnswer;
+use settings::setup;
 use units::Amperes;
 use units::MicroOhms;
 use units::MilliVolts;
@@ -37,50 +40,78 @@ fn readings() {
     print::row(b"reading 0, same", adc_tf.apply(0).0, 4294967295);
 }
 
-// The trip code of an asked voltage at gain 365 and offset 0; 256, which is no code, where it is refused.
-fn code(asked: u32) -> u32 {
+// Set up at 1000 uOhm on a chip of gain 365 and offset 0.
+fn planned(scd: u32, ocd: u32, uv: u32, ov: u32) -> Plan {
     let adc_tf = AdcTransferFunction {
         gain: 365,
         offset: 0,
     };
-    let said = adc_tf.asked_reading(MilliVolts(asked));
-    let Asked::Reading(reading) = said else {
-        return 256;
+    let config = Config {
+        shunt: MicroOhms(1000),
+        scd_delay: SCDDelay::_200uS,
+        scd_threshold: Amperes(scd),
+        ocd_delay: OCDDelay::_320ms,
+        ocd_threshold: Amperes(ocd),
+        uv_delay: UVDelay::_4s,
+        uv_threshold: MilliVolts(uv),
+        ov_delay: OVDelay::_4s,
+        ov_threshold: MilliVolts(ov),
     };
-    trips::trip_code(reading) as u32
+    match config.steps() {
+        StepsAnswer::Chosen(steps) => setup::plan(adc_tf, config, steps),
+        StepsAnswer::Refused(e) => Plan {
+            answer: InitAnswer::Refused(e),
+            regs: [0, 0, 0, 0, 0, 0],
+        },
+    }
 }
 
-// What a UV code stands for, at the same calibration.
-fn uv_reported(code: u8) -> u32 {
-    let adc_tf = AdcTransferFunction {
-        gain: 365,
-        offset: 0,
-    };
-    adc_tf.apply(trips::uv_trip_reading(code)).0
+fn uv_reported(answer: InitAnswer) -> u32 {
+    match answer {
+        InitAnswer::Ready(values) => values.uv_threshold.0,
+        InitAnswer::Refused(_) => 0,
+    }
+}
+
+fn uv_row(name: &[u8], asked: u32, code: u32, reported: u32) {
+    let plan = planned(50, 20, asked, 4200);
+    print::row(name, plan.regs[4] as u32, code);
+    print::row(b"  reported", uv_reported(plan.answer), reported);
+}
+
+fn ov_row(name: &[u8], asked: u32, code: u32) {
+    let plan = planned(50, 20, 2800, asked);
+    print::row(name, plan.regs[3] as u32, code);
 }
 
 fn trip_codes() {
-    print::row(b"UV 1495, gain 365, offset 0: code", code(1495), 0xFF);
-    print::row(b"  reported", uv_reported(0xFF), 2984);
-    print::row(b"UV 1496: code", code(1496), 0x00);
-    print::row(b"  reported", uv_reported(0x00), 1495);
-    print::row(b"UV 2984: code", code(2984), 0xFE);
-    print::row(b"  reported", uv_reported(0xFE), 2978);
-    print::row(b"OV 2993: code", code(2993), 0x00);
-    print::row(b"OV 4482: code", code(4482), 0xFF);
+    uv_row(b"UV 1495, gain 365, offset 0: code", 1495, 0xFF, 2984);
+    uv_row(b"UV 1496: code", 1496, 0x00, 1495);
+    uv_row(b"UV 2984: code", 2984, 0xFE, 2978);
+    ov_row(b"OV 2993: code", 2993, 0x00);
+    ov_row(b"OV 4482: code", 4482, 0xFF);
 }
 
-fn limits() {
-    let adc_tf = AdcTransferFunction {
-        gain: 365,
-        offset: 0,
-    };
-    let uv = adc_tf.uv_voltage_range();
-    print::row(b"UV limits, gain 365, offset 0: low", uv.low.0, 1495);
-    print::row(b"  high", uv.high.0, 2984);
-    let ov = adc_tf.ov_voltage_range();
-    print::row(b"OV limits, same: low", ov.low.0, 2993);
-    print::row(b"  high", ov.high.0, 4482);
+// A voltage that can't be had, and the limits that the refusal names.
+fn refused_row(name: &[u8], uv: u32, ov: u32, number: u32, low: u32, high: u32) {
+    let plan = planned(50, 20, uv, ov);
+    let answer = plan.answer;
+    match answer {
+        InitAnswer::Ready(_) => print::row(name, 0, number),
+        InitAnswer::Refused(e) => {
+            let told = e.told();
+            print::row(name, told.0 as u32, number);
+            print::row(b"  low", told.2, low);
+            print::row(b"  high", told.3, high);
+        }
+    }
+}
+
+fn unobtainable() {
+    refused_row(b"UV 1494: refused", 1494, 4200, 7, 1495, 2984);
+    refused_row(b"UV 2985: refused", 2985, 4200, 7, 1495, 2984);
+    refused_row(b"OV 2992: refused", 2800, 2992, 8, 2993, 4482);
+    refused_row(b"OV 4483: refused", 2800, 4483, 8, 2993, 4482);
 }
 
 fn current() {
@@ -99,33 +130,30 @@ fn scd(amperes: u32) -> u32 {
     }
 }
 
-// A code, or the refusal's number.
-fn bits(code: Code) -> u32 {
-    match code {
-        Code::Bits(bits) => bits as u32,
-        Code::Refused(e) => e.number() as u32,
-    }
-}
-
-// The range's bit for steps of so many millivolts, 0 lower and 128 upper, or the refusal's number.
-fn range_bit(scd: SCDThreshold, ocd: OCDThreshold) -> u32 {
-    match range::range_to_use(scd.range(), ocd.range()) {
-        RangeAnswer::Use(used) => bits(used.bits()),
-        RangeAnswer::Refused(e) => e.number() as u32,
+// The refusal's number, or 0, of a set-up for two currents.
+fn refusal(scd: u32, ocd: u32) -> u32 {
+    let plan = planned(scd, ocd, 2800, 4200);
+    let answer = plan.answer;
+    match answer {
+        InitAnswer::Ready(_) => 0,
+        InitAnswer::Refused(e) => e.number() as u32,
     }
 }
 
 fn steps() {
     print::row(b"SCD 255 A at 1000 uOhm: mV", scd(255), 200);
     print::row(b"SCD 256 A: refused", scd(256), 13);
-    let mismatch = range_bit(SCDThreshold::from_mv(100), OCDThreshold::from_mv(55));
-    print::row(b"SCD 100, OCD 55 A: refused", mismatch, 6);
-    let both = range_bit(SCDThreshold::from_mv(44), OCDThreshold::from_mv(44));
-    print::row(b"SCD 44, OCD 44 A: range", both, 0);
-    let scd_code = SCDThreshold::from_mv(44).bits(OCDSCDRange::Lower);
-    print::row(b"  SCD code", bits(scd_code), 0x2);
-    let ocd_code = OCDThreshold::from_mv(44).bits(OCDSCDRange::Lower);
-    print::row(b"  OCD code", bits(ocd_code), 0xD);
+    print::row(b"  set up: refused", refusal(256, 20), 13);
+    print::row(b"OCD 256 A: set up: refused", refusal(50, 256), 13);
+    print::row(b"SCD 100, OCD 55 A: refused", refusal(100, 55), 6);
+    let regs = planned(44, 44, 2800, 4200).regs;
+    both_rows(regs[0], regs[1]);
+}
+
+fn both_rows(protect1: u8, protect2: u8) {
+    print::row(b"SCD 44, OCD 44 A: range", protect1 as u32 / 128, 0);
+    print::row(b"  SCD code", protect1 as u32 % 8, 0x2);
+    print::row(b"  OCD code", protect2 as u32 % 16, 0xD);
 }
 
 // The published table's entries and check value.
@@ -146,8 +174,10 @@ fn main() {
     calibration();
     readings();
     trip_codes();
-    limits();
+    unobtainable();
     steps();
     current();
+    cells::ten();
+    cells::six();
     check_bytes();
 }

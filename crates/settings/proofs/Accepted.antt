@@ -11,12 +11,12 @@ use Rattle.protection.specs.Ranges.{codeIn, codeFor}
 use Rattle.protection.specs.Steps.{scdLower, scdUpper, ocdLower, ocdUpper}
 use Rattle.protection.specs.declared.range.OCDSCDRange.{OCDSCDRange}
 use Rattle.protection.specs.declared.range.OCDSCDRange.the-variants as R
-use Rattle.adc.specs.Trips.{tripCode}
+use Rattle.adc.specs.Trips.{readingOf, tripCode}
 use Rattle.settings.specs.Fields.{ofRange}
 use Rattle.settings.specs.Order.{_>>=_}
 use Rattle.settings.specs.Plan.{Planned, valuesFor, setFor, planFor}
 use Rattle.settings.specs.Registers.{protectOf, protectFor}
-use Rattle.settings.specs.Trips.{readingOf, tripCodeFor}
+use Rattle.settings.specs.Trips.{tripCodeFor}
 use Rattle.settings.specs.declared.Config.{Config}
 use Rattle.settings.specs.declared.setup.Protect.{Protect}
 use Rattle.settings.proofs.After.{choice}

@@ -1,22 +1,22 @@
 -- What is left of the plan where neither 12 nor 9 applies, and the numbers that it is refused with.
 -- Assumes nothing.
-use mathlib.Core.Path.{_≡_, refl, ap, sym, subst, _∙_}
-use mathlib.Core.Bool.{Bool, false, not, _&&_}
+use mathlib.Core.Path.{_≡_, refl, ap, sym, _∙_}
+use mathlib.Core.Bool.{Bool, false, true≢false, not, _&&_}
 use Prim.Native.Nat.{ℕ, _<_}
 use native.Mathlib.Omega.{arith}
-use lib.Dec.{T, eqb}
+use lib.Dec.{eqb}
 use lib.IntN.{ℤ}
 use borrow.Author.Tests.{ne-eqb}
 use Rattle.refusals.specs.Refusal.{Answer, value, refused}
 use Rattle.protection.specs.Ranges.{rangeFor, forBoth}
 use Rattle.protection.specs.Steps.{scdLower, scdUpper, ocdLower, ocdUpper}
 use Rattle.protection.specs.declared.range.OCDSCDRange.{OCDSCDRange}
-use Rattle.adc.specs.Trips.{tripCode}
+use Rattle.adc.specs.Trips.{readingOf, tripCode}
 use Rattle.settings.specs.Exactly.{isNo}
 use Rattle.settings.specs.Order.{_>>=_}
 use Rattle.settings.specs.Plan.{Planned, setFor, planFor}
 use Rattle.settings.specs.Steps.{badShunt}
-use Rattle.settings.specs.Trips.{readingOf, tripCodeFor, withinFor}
+use Rattle.settings.specs.Trips.{tripCodeFor, withinFor}
 use Rattle.settings.specs.declared.Config.{Config}
 use Rattle.settings.proofs.Only.{Only, range-only, protect-only}
 use Rattle.settings.proofs.Order.{past}
@@ -90,4 +90,4 @@ after-6 {A = A} n (refused r) next t other only says =
 
 pub shares : {A : Type 0} (a : Answer A) → Only 6 a → isNo 6 a ≡ false → (x : A) × (a ≡ value x)
 shares (value x) only e = (x, refl)
-shares {A = A} (refused r) only e = absurd (subst T (sym (ap (λ (a : Answer A). isNo 6 a) (only r refl)) ∙ e) tt)
+shares {A = A} (refused r) only e = absurd (true≢false (sym (ap (λ (a : Answer A). isNo 6 a) (only r refl)) ∙ e))

@@ -7,12 +7,12 @@ use Rattle.refusals.proofs.Telling.{answerBack, untold-told}
 use Rattle.protection.proofs.Agree.{scd-named, ocd-named}
 use Rattle.protection.specs.Scd as scd
 use Rattle.protection.specs.Ocd as ocd
-use Rattle.settings.specs.Plan.{Values, Outcome, asAnswer, asPlan}
+use Rattle.settings.specs.Plan.{Values, Outcome, asInit, asPlan}
 use Rattle.settings.specs.Steps.{InMv, asSteps}
 use Rattle.settings.specs.declared.CalculatedValues.{CalculatedValues}
+use Rattle.settings.specs.declared.InitAnswer.{InitAnswer}
+use Rattle.settings.specs.declared.InitAnswer.the-variants as I
 use Rattle.settings.specs.declared.Plan.{Plan}
-use Rattle.settings.specs.declared.PlanAnswer.{PlanAnswer}
-use Rattle.settings.specs.declared.PlanAnswer.the-variants as P
 use Rattle.settings.specs.declared.StepsAnswer.{StepsAnswer}
 use Rattle.settings.specs.declared.StepsAnswer.the-variants as S
 
@@ -33,21 +33,24 @@ calculated v = record {
   «ov_threshold» = record { 0 = v .ov };
 }
 
-abbrev ready : Values → PlanAnswer
-ready v = P.Ready (calculated v)
+abbrev ready : Values → InitAnswer
+ready v = I.Ready (calculated v)
 
-answer-undone : (a : PlanAnswer) → answerBack ready P.Refused (asAnswer a) ≡ a
-answer-undone (P.Ready values) = refl
-answer-undone (P.Refused e) = ap P.Refused (untold-told e)
+answer-undone : (a : InitAnswer) → answerBack ready I.Refused (asInit a) ≡ a
+answer-undone (I.Ready values) = refl
+answer-undone (I.Refused e) = ap I.Refused (untold-told e)
 
 abbrev planBack : Outcome → Plan
-planBack o = record { answer = answerBack ready P.Refused (o .answer); regs = o .regs }
+planBack o = record { answer = answerBack ready I.Refused (o .answer); regs = o .regs }
 
 plan-undone : (p : Plan) → planBack (asPlan p) ≡ p
 plan-undone p = λ i. record { answer = answer-undone (p .answer) i; regs = p .regs }
 
 pub steps-agree : (a b : StepsAnswer) → asSteps a ≡ asSteps b → a ≡ b
 steps-agree = one-to-one asSteps (answerBack chosen S.Refused) steps-undone
+
+pub answer-agree : (a b : InitAnswer) → asInit a ≡ asInit b → a ≡ b
+answer-agree = one-to-one asInit (answerBack ready I.Refused) answer-undone
 
 pub plan-agree : (a b : Plan) → asPlan a ≡ asPlan b → a ≡ b
 plan-agree = one-to-one asPlan planBack plan-undone

@@ -1,9 +1,8 @@
 -- No range has both steps just where one step is in the lower only and the other in the upper only: the sixteen cases of the four memberships.
 -- Assumes nothing.
-use mathlib.Core.Path.{_≡_, refl, ap, sym, _∙_, subst}
-use mathlib.Core.Bool.{Bool, true, false, cond, not, _&&_, _||_}
+use mathlib.Core.Path.{_≡_, refl, ap, _∙_}
+use mathlib.Core.Bool.{Bool, true, false, false≢true, cond, not, _&&_, _||_}
 use mathlib.Core.List.{[]}
-use lib.Dec.{T}
 use Rattle.refusals.specs.Refusal.{Answer, value, refused, no}
 use Rattle.protection.specs.Ranges.{isIn}
 use Rattle.protection.specs.Scd as scd
@@ -18,9 +17,6 @@ use Rattle.protection.proofs.Shared.{shared}
 use Rattle.settings.specs.Exactly.{isNo, apart}
 use Rattle.settings.proofs.After.{choice}
 
-none : {X : Type 0} → false ≡ true → X
-none e = absurd (subst T (sym e) tt)
-
 table :
     (sl su ol ou : Bool) → sl || su ≡ true → ol || ou ≡ true
     → isNo 6 (cond (sl && ol) (value R.Lower) (cond (su && ou) (value R.Upper) (refused (no 6 []))))
@@ -28,16 +24,16 @@ table :
 table true true true true e f = refl
 table true true true false e f = refl
 table true true false true e f = refl
-table true true false false e f = none f
+table true true false false e f = absurd (false≢true f)
 table true false true true e f = refl
 table true false true false e f = refl
 table true false false true e f = refl
-table true false false false e f = none f
+table true false false false e f = absurd (false≢true f)
 table false true true true e f = refl
 table false true true false e f = refl
 table false true false true e f = refl
-table false true false false e f = none f
-table false false ol ou e f = none e
+table false true false false e f = absurd (false≢true f)
+table false false ol ou e f = absurd (false≢true e)
 
 pub choice-apart : (s : SCDThreshold) (o : OCDThreshold) → isNo 6 (choice (scd.mvOf s) (ocd.mvOf o)) ≡ apart (scd.mvOf s) (ocd.mvOf o)
 choice-apart s o =

@@ -13,9 +13,8 @@ use Rattle.protection.specs.declared.range.OCDSCDRange.{OCDSCDRange}
 use Rattle.protection.specs.declared.scd.SCDThreshold.{SCDThreshold}
 use Rattle.protection.specs.declared.ocd.OCDThreshold.{OCDThreshold}
 use Rattle.adc.specs.Registers.{field}
-use Rattle.adc.specs.Trips.{tripCode}
+use Rattle.adc.specs.Trips.{readingOf, tripCode}
 use Rattle.settings.specs.Fields.{readBack, fieldsOf}
-use Rattle.settings.specs.Trips.{readingOf}
 use Rattle.settings.specs.declared.Config.{Config}
 use Rattle.settings.proofs.Accepted.{plannedIn}
 use Rattle.settings.proofs.Fits.{scd-delay<, ocd-delay<, uv-delay<, ov-delay<, range<, scd-code<, ocd-code<}

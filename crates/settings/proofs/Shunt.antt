@@ -1,11 +1,10 @@
 -- What the test of a shunt says.
 -- Assumes nothing.
-use mathlib.Core.Path.{_≡_, ap, subst}
-use mathlib.Core.Bool.{Bool, true, false}
+use mathlib.Core.Path.{_≡_, ap}
+use mathlib.Core.Bool.{Bool, true, false, true≢false}
 use mathlib.Core.List.{[]}
 use Prim.Native.Nat.{ℕ, zero, suc, _<_}
 use native.Mathlib.Omega.{arith}
-use lib.Dec.{T}
 use Rattle.refusals.specs.Refusal.{value, refused, no, refusedIf}
 use Rattle.settings.specs.Steps.{badShunt, shuntFor}
 
@@ -18,5 +17,5 @@ unfolding shuntFor
 good shunt e = ap (λ (t : Bool). refusedIf t 12 (value shunt)) e
 
 pub positive : (shunt : ℕ) → badShunt shunt ≡ false → 0 < shunt
-positive zero e = absurd (subst T e tt)
+positive zero e = absurd (true≢false e)
 positive (suc n) e = omega arith

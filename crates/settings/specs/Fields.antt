@@ -5,13 +5,12 @@ use mathlib.Core.List.{List, [], _∷_}
 use lib.ListN.{getD}
 use lib.IntN.{ℤ}
 use Rattle.adc.specs.Registers.{field}
-use Rattle.adc.specs.Trips.{tripCode}
+use Rattle.adc.specs.Trips.{readingOf, tripCode}
 use Rattle.protection.specs.Delays.{scdCode, ocdCode, uvCode, ovCode}
 use Rattle.protection.specs.Ranges.{codeIn}
 use Rattle.protection.specs.Steps.{scdLower, scdUpper, ocdLower, ocdUpper}
 use Rattle.protection.specs.declared.range.OCDSCDRange.{OCDSCDRange}
 use Rattle.protection.specs.declared.range.OCDSCDRange.the-variants as R
-use Rattle.settings.specs.Trips.{readingOf}
 use Rattle.settings.specs.declared.Config.{Config}
 
 pub record Fields : Type 0 where

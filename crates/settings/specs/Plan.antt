@@ -16,9 +16,9 @@ use Rattle.settings.specs.Trips.{tripCodeFor, withinFor}
 use Rattle.settings.specs.Registers.{protectFor}
 use Rattle.settings.specs.declared.Config.{Config}
 use Rattle.settings.specs.declared.CalculatedValues.{CalculatedValues}
+use Rattle.settings.specs.declared.InitAnswer.{InitAnswer}
+use Rattle.settings.specs.declared.InitAnswer.the-variants as I
 use Rattle.settings.specs.declared.Plan.{Plan}
-use Rattle.settings.specs.declared.PlanAnswer.{PlanAnswer}
-use Rattle.settings.specs.declared.PlanAnswer.the-variants as P
 
 -- the range used, the two currents in A, the two voltages in mV
 pub record Values : Type 0 where
@@ -81,9 +81,9 @@ asValues v = record {
   ov = v .«ov_threshold» .0;
 }
 
-abbrev pub asAnswer : PlanAnswer → Answer Values
-asAnswer (P.Ready values) = value (asValues values)
-asAnswer (P.Refused e) = refused (told e)
+abbrev pub asInit : InitAnswer → Answer Values
+asInit (I.Ready values) = value (asValues values)
+asInit (I.Refused e) = refused (told e)
 
 abbrev pub asPlan : Plan → Outcome
-asPlan p = record { answer = asAnswer (p .answer); regs = p .regs }
+asPlan p = record { answer = asInit (p .answer); regs = p .regs }

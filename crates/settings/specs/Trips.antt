@@ -4,18 +4,13 @@ use Prim.Native.Nat.{ℕ}
 use mathlib.Core.Bool.{Bool, cond, _&&_}
 use mathlib.Core.List.{List, [], _∷_}
 use lib.Dec.{leb}
-use lib.IntN.{ℤ, pos, _-ℤ_, _*ℤ_}
-use Rattle.signed.specs.Numbers.{_÷↓_}
+use lib.IntN.{ℤ, pos}
 use Rattle.refusals.specs.Refusal.{Answer, value, refused, no, told}
 use Rattle.adc.specs.Trips.{ovTrip, uvTrip, limits, askedReading, tripCode}
 use Rattle.adc.specs.declared.transfer.Limits.{Limits}
 use Rattle.settings.specs.Order.{_>>=_}
 use Rattle.settings.specs.declared.setup.Within.{Within}
 use Rattle.settings.specs.declared.setup.Within.the-variants as W
-
--- the reading for an asked voltage in mV, rounded down, where the gain is not 0
-abbrev pub readingOf : ℕ → ℤ → ℕ → ℤ
-readingOf gain offset asked = ((pos asked -ℤ offset) *ℤ pos 1000) ÷↓ gain
 
 -- the code for an asked voltage; a gain of 0 is 9
 unfoldable pub tripCodeFor : ℕ → ℤ → ℕ → Answer ℕ

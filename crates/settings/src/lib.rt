@@ -47,14 +47,15 @@ pub enum StepsAnswer {
     Refused(Error),
 }
 
-pub enum PlanAnswer {
+// What setting up answers.
+pub enum InitAnswer {
     Ready(CalculatedValues),
     Refused(Error),
 }
 
 // The six bytes for registers 06 to 0B, zero where the plan is refused, and the values to report.
 pub struct Plan {
-    pub answer: PlanAnswer,
+    pub answer: InitAnswer,
     pub regs: [u8; 6],
 }
 

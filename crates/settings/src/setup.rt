@@ -12,8 +12,8 @@ ghost use Rattle.settings.specs.Registers.{protectOf, protectFor, asProt
 ghost use Rattle.settings.specs.Trips.{tripCodeFor, obtainable, withinFor, asWithin};
 use crate::CalculatedValues;
 use crate::Config;
+use crate::InitAnswer;
 use crate::Plan;
-use crate::PlanAnswer;
 use crate::Steps;
 use adc::transfer::AdcTransferFunction;
 use adc::transfer::Asked;
@@ -56,7 +56,7 @@ fn refused(e: Error) -> Plan
     ensures { λ r. ⌜ asPlan r ≡ outcome (refused (told e)) ⌝ }
 {
     Plan {
-        answer: PlanAnswer::Refused(e),
+        answer: InitAnswer::Refused(e),
         regs: [0, 0, 0, 0, 0, 0],
     }
 }
@@ -195,7 +195,7 @@ fn set(
         return refused(Error::UnknownRange);
     };
     Plan {
-        answer: PlanAnswer::Ready(values(adc, config, steps, range, ov_bits, uv_bits)),
+        answer: InitAnswer::Ready(values(adc, config, steps, range, ov_bits, uv_bits)),
         regs: [protect.0, protect.1, protect.2, ov_bits, uv_bits, 0x19],
     }
 }

@@ -2,7 +2,7 @@
 -- `sized` says that it fits, and `search` with the ruleset `signed` and those facts reads it back as it is.
 -- Assumes nothing.
 use mathlib.Core.Path.{_≡_, refl, sym, _∙_, ap, subst}
-use mathlib.Core.Bool.{Bool, true, false, cond}
+use mathlib.Core.Bool.{Bool, true, false, true≢false, cond}
 use Prim.Native.Nat.{ℕ, zero, suc, _+_, _-_, _*_, _/_, _^_, _≤_, _<_}
 use native.Mathlib.Nat.{le-refl, mul-le-mul, mod-lt, lt-of-le-of-lt, lt-of-lt-of-le}
 use native.Mathlib.Omega.{arith}
@@ -104,9 +104,6 @@ twos-fits w half n whole h = by-test (ltb n half) refl
         subst (SFits w) (sym (twos-high half n least ∙ minus n (2 * half) ∙ below n (2 * half) h)) (record { sfits = omega (arith, whole) })
 
 -- ---- what a test against zero says
-not-both : {X : Type 0} → true ≡ false → X
-not-both e = absurd (subst T e tt)
-
 none-below-zero : {X : Type 0} (n : ℕ) → ltb n 0 ≡ true → X
 none-below-zero n e = absurd (none n (ltb-true n 0 e))
   where
@@ -119,7 +116,7 @@ is-below (negsuc n) e = refl
 
 pub is-natural : (z : ℤ) → ltZ z (pos 0) ≡ false → z ≡ pos (mag z)
 is-natural (pos n) e = refl
-is-natural (negsuc n) e = not-both e
+is-natural (negsuc n) e = absurd (true≢false e)
 
 -- -1 - z takes a number below zero to its size less one, and that back
 pub less-one : (n : ℕ) → negsuc 0 -ℤ negsuc n ≡ pos n

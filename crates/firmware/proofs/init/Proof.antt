@@ -4,7 +4,7 @@ use Rattle.job.specs.Jobs.{asJob}
 use Rattle.bq769x0.specs.Record.{asMade}
 use Rattle.bus.proofs.Programs.{pure-on, pure-off}
 use Rattle.firmware.specs.JobInit.{jobInit}
-use Rattle.firmware.proofs.Stages.{made-is, dropped-is}
+use Rattle.firmware.proofs.Stages.{made-is, unmade, none-made}
 use borrow.Author.Needs.{needs}
 use Rattle.firmware.proofs.init.Statement.{statement}
 use Rattle.firmware.proofs.init.Tie as tie
@@ -18,17 +18,20 @@ enum-known-parsed c = search needs
 enum-told : tie.Need-enum-told
 enum-told c = search needs
 
+new-requires : tie.Need-new-requires
+new-requires c κs = search needs
+
 of-job-requires : tie.Need-of-job-requires
 of-job-requires c κs = search needs
 
 returns : tie.Need-returns
 unfolding jobInit
 returns c =
-    let t = ap asJob (c .before .enum-told .given .1) in
-    rw (c .of-job .ensures, t) (sym (pure-off _ _ _ _ _ (sym (c .before .before .before .parse .ensures) ∙ t)))
+    let t = ap asJob (c .before .before .before .enum-told .given .1) in
+    rw (c .of-job .ensures, t, none-made (c .before .before .new .ensures)) (sym (pure-off _ _ _ _ _ (sym (c .before .before .before .before .before .parse .ensures) ∙ t)))
 
-new-requires : tie.Need-new-requires
-new-requires c κs = search needs
+new-requires-2 : tie.Need-new-requires-2
+new-requires-2 c κs = search needs
 
 enum-told-2 : tie.Need-enum-told-2
 enum-told-2 c = search needs
@@ -43,9 +46,10 @@ returns-2 : tie.Need-returns-2
 unfolding jobInit
 returns-2 c =
     let t = ap asMade (c .before .enum-told3 .given .1) in
-    rw (c .of-new .ensures, t) (sym (
+    let made = c .before .before .before .before .new2 .ensures in
+    rw (c .of-new .ensures, t, unmade _ _ _ _ _ made t) (sym (
     pure-on _ _ _ _ _ (sym (c .before .before .before .before .before .before .before .before .before .before .parse .ensures) ∙ ap asJob (c .before .before .before .before .before .before .before .before .parsed .given .1))
-    ∙ pure-off _ _ _ _ _ (made-is _ (c .before .before .before .before .new .ensures) t)))
+    ∙ pure-off _ _ _ _ _ (made-is _ made t)))
 
 init-requires : tie.Need-init-requires
 init-requires c κs = search needs
@@ -56,10 +60,10 @@ same-length c = search needs
 returns-3 : tie.Need-returns-3
 unfolding jobInit
 returns-3 c =
-    sym (
-    pure-on _ _ _ _ _ (sym (c .before .before .before .before .before .before .before .before .before .before .before .before .before .before .parse .ensures) ∙ ap asJob (c .before .before .before .before .before .before .before .before .before .before .before .before .parsed .given .1))
-    ∙ pure-on _ _ _ _ _ (made-is _ (c .before .before .before .before .before .before .before .before .new .ensures) (ap asMade (c .before .before .before .before .before .enum-told2 .given .1)))
-    ∙ dropped-is _ _ (c .before .before .before .init .ensures))
+    c .before .before .init .ensures
+    ∙ sym (
+    pure-on _ _ _ _ _ (sym (c .before .before .before .before .before .before .before .before .before .before .before .before .before .parse .ensures) ∙ ap asJob (c .before .before .before .before .before .before .before .before .before .before .before .parsed .given .1))
+    ∙ pure-on _ _ _ _ _ (made-is _ (c .before .before .before .before .before .before .before .new2 .ensures) (ap asMade (c .before .before .before .before .enum-told2 .given .1))))
 
 pub init-spec : {M : Type 1} → statement M
 init-spec =
@@ -68,9 +72,10 @@ init-spec =
     parse-requires
     enum-known-parsed
     enum-told
+    new-requires
     of-job-requires
     returns
-    new-requires
+    new-requires-2
     enum-told-2
     enum-told-3
     of-new-requires

@@ -1,6 +1,6 @@
 -- `bq769x0::BQ769x0::set_up` meets its contract. Assumes nothing.
 use mathlib.Core.Path.{_≡_, sym, ap, _∙_}
-use Rattle.settings.specs.Plan.{asAnswer}
+use Rattle.settings.specs.Plan.{asInit}
 use Rattle.bus.specs.Raw.{asRaw}
 use Rattle.bus.proofs.Programs.{went-on, went-off, pure-on, pure-off}
 use Rattle.bq769x0.specs.Init.{setting}
@@ -21,15 +21,11 @@ enum-known-planned c = search needs
 enum-told : tie.Need-enum-told
 enum-told c = search needs
 
-of-plan-requires : tie.Need-of-plan-requires
-of-plan-requires c κs = search needs
-
 returns : tie.Need-returns
 unfolding setting
 returns c =
-    let t = ap asAnswer (c .before .enum-told .given .1) in
-    rw (c .of-plan .ensures, t)
-    (sym (pure-off _ _ _ _ _ (plan-off (c .before .before .before .before .plan .result) _ (rw (c .before .before .before .before .before .adc-transfer-function .ensures) at (c .before .before .before .before .plan .ensures)) _ t)))
+    let t = ap asInit (c .enum-told .given .1) in
+    rw (t) (sym (pure-off _ _ _ _ _ (plan-off (c .before .before .before .plan .result) _ (rw (c .before .before .before .before .adc-transfer-function .ensures) at (c .before .before .before .plan .ensures)) _ t)))
 
 slice-aggregate-write : tie.Need-slice-aggregate-write
 slice-aggregate-write c = search needs
@@ -54,7 +50,7 @@ unfolding setting
 returns-2 c =
     let t = ap asRaw (c .before .enum-told3 .given .1) in
     rw (c .of-raw .ensures, t) (sym (
-    pure-on _ _ _ _ _ (plan-on (c .before .before .before .before .before .before .before .before .before .before .before .before .before .plan .result) _ (rw (c .before .before .before .before .before .before .before .before .before .before .before .before .before .before .adc-transfer-function .ensures) at (c .before .before .before .before .before .before .before .before .before .before .before .before .before .plan .ensures)) _ (ap asAnswer (c .before .before .before .before .before .before .before .before .before .before .planned .given .1)))
+    pure-on _ _ _ _ _ (plan-on (c .before .before .before .before .before .before .before .before .before .before .before .before .before .plan .result) _ (rw (c .before .before .before .before .before .before .before .before .before .before .before .before .before .before .adc-transfer-function .ensures) at (c .before .before .before .before .before .before .before .before .before .before .before .before .before .plan .ensures)) _ (ap asInit (c .before .before .before .before .before .before .before .before .before .before .planned .given .1)))
     ∙ went-off _ _ _ _ _ _ (sym (c .before .before .before .before .before .before .write .ensures)) _ t))
 
 store-shunt-requires : tie.Need-store-shunt-requires
@@ -71,7 +67,7 @@ unfolding setting
 returns-3 c =
     c .before .before .count .ensures
     ∙ rw (c .before .before .before .before .store-shunt .ensures) (sym (
-    pure-on _ _ _ _ _ (plan-on (c .before .before .before .before .before .before .before .before .before .before .before .before .before .before .before .before .before .plan .result) _ (rw (c .before .before .before .before .before .before .before .before .before .before .before .before .before .before .before .before .before .before .adc-transfer-function .ensures) at (c .before .before .before .before .before .before .before .before .before .before .before .before .before .before .before .before .before .plan .ensures)) _ (ap asAnswer (c .before .before .before .before .before .before .before .before .before .before .before .before .before .before .planned .given .1)))
+    pure-on _ _ _ _ _ (plan-on (c .before .before .before .before .before .before .before .before .before .before .before .before .before .before .before .before .before .plan .result) _ (rw (c .before .before .before .before .before .before .before .before .before .before .before .before .before .before .before .before .before .before .adc-transfer-function .ensures) at (c .before .before .before .before .before .before .before .before .before .before .before .before .before .before .before .before .before .plan .ensures)) _ (ap asInit (c .before .before .before .before .before .before .before .before .before .before .before .before .before .before .planned .given .1)))
     ∙ went-on _ _ _ _ _ _ (sym (c .before .before .before .before .before .before .before .before .before .before .write .ensures)) _ (ap asRaw (c .before .before .before .before .before .enum-told2 .given .1))))
 
 pub set-up-spec : {M : Type 1} → statement M
@@ -82,7 +78,6 @@ set-up-spec =
     plan-requires
     enum-known-planned
     enum-told
-    of-plan-requires
     returns
     slice-aggregate-write
     write-requires

@@ -1,0 +1,191 @@
+// The model chip of a battery monitor: 256 registers behind a bus address, with check bytes or without. `specs/Chip.antt` says what it does.
+ghost use mathlib.Core.Path.{_≡_};
+ghost use mathlib.Core.Bool.{true, false};
+ghost use mathlib.Core.List.{[], _∷_};
+ghost use mathlib.Core.Option.{none, some};
+ghost use Prim.Native.Nat.{ℕ, _+_, _≤_, _<_};
+ghost use lib.Dec.{leb};
+ghost use lib.ListN.{length, getD};
+ghost use Rattle.frames.specs.Frames.{writeByte};
+ghost use Rattle.frames.specs.Put.{put};
+ghost use Rattle.bus.specs.Transfers.{read, write};
+ghost use Rattle.chip.specs.Chip.{withRegs, fresh, withReg, begun, arrives, stores, agreed, written, shows, answers, respond, respondCut, delivered};
+use check_byte::check_byte1;
+use check_byte::check_byte2;
+use check_byte::check_byte3;
+
+pub struct Chip {
+    pub address: u8,
+    pub check: bool,
+    pub regs: [u8; 256],
+}
+
+impl Chip {
+    // All registers are zero.
+    pub fn make(address: u8, check: bool) -> Chip
+        ensures { λ r. ⌜ r ≡ fresh address check ⌝ }
+    {
+        let regs = [0u8; 256];
+        Chip {
+            address,
+            check,
+            regs,
+        }
+    }
+
+    // By hand, which is no bus write.
+    pub fn set(self, reg: u8, byte: u8) -> Chip
+        ensures { λ r. ⌜ r ≡ withReg self reg byte ⌝ }
+    {
+        let mut out = self;
+        let i = reg as usize;
+        out.regs[i] = byte;
+        out
+    }
+
+    // A data byte of a write: status clears the bits written as 1.
+    fn arrive(self, reg: u8, byte: u8) -> Chip
+        ensures { λ r. ⌜ r ≡ withRegs self (arrives reg byte (self .regs)) ⌝ }
+    {
+        if reg == 0 {
+            let status = self.regs[0];
+            return self.set(0, status - (status & byte));
+        }
+        self.set(reg, byte)
+    }
+
+    // Without checks each byte is stored.
+    fn store_alone(self, reg: u8, bytes: &[u8]) -> Chip
+        requires { ⌜ reg + length (now bytes) ≤ 256 ⌝ }
+        ensures { λ r. ⌜ r ≡ withRegs self (stores reg (now (bytes .entry)) (self .regs)) ⌝ }
+    {
+        let mut out = self;
+        let mut i = 0;
+        while i < bytes.len() {
+            let at = (reg as usize + i) as u8;
+            out = out.arrive(at, bytes[i]);
+            i += 1;
+        }
+        out
+    }
+
+    // With checks each byte whose check byte agrees, up to the first that does not.
+    fn store_checked(self, reg: u8, bytes: &[u8]) -> Chip
+        requires { ⌜ reg + begun true (length (now bytes)) ≤ 256 ⌝ }
+        ensures { λ r. ⌜ r ≡ withRegs self (stores reg (agreed (writeByte (self .address) ∷ reg ∷ []) (now (bytes .entry))) (self .regs)) ⌝ }
+    {
+        let address = self.address;
+        if bytes.len() < 2 {
+            return self;
+        }
+        if check_byte3(address << 1, reg, bytes[0]) != bytes[1] {
+            return self;
+        }
+        let mut out = self.arrive(reg, bytes[0]);
+        let mut i = 2;
+        while i + 1 < bytes.len() {
+            if check_byte1(bytes[i]) != bytes[i + 1] {
+                return out;
+            }
+            let at = (reg as usize + i / 2) as u8;
+            out = out.arrive(at, bytes[i]);
+            i += 2;
+        }
+        out
+    }
+
+    // Whether n bytes from a register on pass no register FF.
+    fn is_within(self, reg: u8, n: usize) -> bool
+        ensures { λ r. ⌜ r ≡ leb (reg + begun (self .check) n) 256 ⌝ }
+    {
+        if self.check {
+            return n - n / 2 <= 256 - reg as usize;
+        }
+        n <= 256 - reg as usize
+    }
+
+    fn is_answered(self, bytes: &[u8]) -> bool
+        ensures { λ r. ⌜ r ≡ answers self (write (self .address) (now (bytes .entry))) ⌝ }
+    {
+        if bytes.len() == 0 {
+            return true;
+        }
+        self.is_within(bytes[0], bytes.len() - 1)
+    }
+
+    // The register, and then the data.
+    fn take_in(self, bytes: &[u8]) -> Chip
+        requires { ⌜ answers self (write (self .address) (now bytes)) ≡ true ⌝ }
+        ensures { λ r. ⌜ r ≡ written self (now (bytes .entry)) ⌝ }
+    {
+        if bytes.len() == 0 {
+            return self;
+        }
+        let reg = bytes[0];
+        if self.check {
+            self.store_checked(reg, &bytes[1..])
+        } else {
+            self.store_alone(reg, &bytes[1..])
+        }
+    }
+
+    // A write, by its bytes after the address byte.
+    pub fn write(self, bytes: &[u8]) -> Chip
+        ensures { λ r. ⌜ r ≡ respond self (write (self .address) (now (bytes .entry))) .device ⌝ }
+    {
+        if !self.is_answered(bytes) {
+            return self;
+        }
+        self.take_in(bytes)
+    }
+
+    // The same, cut after n of them.
+    pub fn write_cut(self, bytes: &[u8], n: usize) -> Chip
+        ensures { λ r. ⌜ r ≡ respondCut (some n) self (write (self .address) (now (bytes .entry))) .device ⌝ }
+    {
+        if !self.is_answered(bytes) {
+            return self;
+        }
+        if bytes.len() <= n {
+            return self.take_in(bytes);
+        }
+        self.take_in(&bytes[..n])
+    }
+
+    // Byte i of a read, however long.
+    fn shown(self, reg: u8, i: usize) -> u8
+        requires { ⌜ reg + begun (self .check) (i + 1) ≤ 256 ⌝ }
+        ensures { λ r. ⌜ ((n : ℕ) → i < n → r ≡ getD (shows self reg n) i 0) ⌝ }
+    {
+        let address = self.address;
+        if !self.check {
+            let at = reg as usize + i;
+            return self.regs[at];
+        }
+        let at = reg as usize + i / 2;
+        let byte = self.regs[at];
+        if i % 2 == 0 {
+            return byte;
+        }
+        if i == 1 {
+            return check_byte2(address << 1 | 1, byte);
+        }
+        check_byte1(byte)
+    }
+
+    // A read of as many bytes on the bus as out holds, and whether it is answered.
+    pub fn read(self, reg: u8, out: &mut [u8]) -> bool
+        ensures { λ r. ⌜ (r ≡ answers self (read (self .address) reg (length (now (out .entry)))))
+            × (now (out .exit) ≡ put (now (out .entry)) 0 (delivered (respond self (read (self .address) reg (length (now (out .entry)))) .answer))) ⌝ }
+    {
+        if !self.is_within(reg, out.len()) {
+            return false;
+        }
+        let mut i = 0;
+        while i < out.len() {
+            out[i] = self.shown(reg, i);
+            i += 1;
+        }
+        true
+    }
+}

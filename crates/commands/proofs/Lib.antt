@@ -1,0 +1,5 @@
+pub mod Agree
+pub mod First
+pub mod Holds
+pub mod Source
+pub mod Unwritten

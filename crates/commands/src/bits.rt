@@ -1,0 +1,100 @@
+// One register: its byte read, and some of its bits changed. 9 first on a record that is not sound.
+ghost use mathlib.Core.Path.{_≡_};
+ghost use Rattle.bus.specs.Transfers.{busOf};
+ghost use Rattle.bus.specs.Programs.{onTape, ran};
+ghost use Rattle.bus.specs.Raw.{asRaw};
+ghost use Rattle.refusals.specs.Refusal.{refused};
+ghost use Rattle.bq769x0.specs.Record.{nine, setupOf};
+ghost use Rattle.bq769x0.specs.Registers.{soundly};
+ghost use Rattle.bq769x0.specs.Init.{refusalOf};
+ghost use Rattle.commands.specs.Answers.{asByte};
+ghost use Rattle.commands.specs.Bits.{holds, placed, readRegister, putting, changing};
+use bq769x0::BQ769x0;
+use bus::Cursor;
+use bus::raw::Raw;
+use bus::raw::RawAnswer;
+use refusals::Error;
+
+pub enum ByteAnswer {
+    Byte(u8),
+    Refused(Error),
+}
+
+pub struct ByteRead {
+    pub answer: ByteAnswer,
+    pub at: Cursor,
+}
+
+// One of the mask's bits is set.
+pub(crate) fn holds(mask: u8, byte: u8) -> bool
+    ensures { λ r. ⌜ r ≡ holds mask byte ⌝ }
+{
+    byte & mask != 0
+}
+
+// The mask's bits, or none.
+pub(crate) fn placed(mask: u8, on: bool) -> u8
+    ensures { λ r. ⌜ r ≡ placed mask on ⌝ }
+{
+    if on { mask } else { 0 }
+}
+
+fn of_raw(answer: RawAnswer) -> ByteAnswer
+    ensures { λ r. ⌜ asByte r ≡ refusalOf (asRaw answer) ⌝ }
+{
+    match answer {
+        RawAnswer::Done => ByteAnswer::Refused(Error::BadDevice),
+        RawAnswer::Refused(e) => ByteAnswer::Refused(e),
+    }
+}
+
+pub(crate) fn read_register(
+    device: BQ769x0,
+    reg: u8,
+    tape: &[u8],
+    log: &mut [u8],
+    at: Cursor,
+) -> ByteRead
+    ensures { λ r. ⌜ ran (asByte (r .answer)) (now (tape .entry)) (now (log .exit)) (r .at)
+        ≡ onTape (soundly device (refused nine) (readRegister (setupOf device) reg)) (busOf (now (tape .entry)) (now (log .entry)) at) ⌝ }
+{
+    let mut data = [0u8; 1];
+    let read = device.read_raw(reg, &mut data, tape, log, at);
+    let answer = read.answer;
+    let next = read.at;
+    let RawAnswer::Done = answer else {
+        return ByteRead {
+            answer: of_raw(answer),
+            at: next,
+        };
+    };
+    ByteRead {
+        answer: ByteAnswer::Byte(data[0]),
+        at: next,
+    }
+}
+
+// The bits of a mask anew, the others as they are read.
+pub(crate) fn change_bits(
+    device: BQ769x0,
+    reg: u8,
+    mask: u8,
+    bits: u8,
+    tape: &[u8],
+    log: &mut [u8],
+    at: Cursor,
+) -> Raw
+    ensures { λ r. ⌜ ran (asRaw (r .answer)) (now (tape .entry)) (now (log .exit)) (r .at)
+        ≡ onTape (soundly device (refused nine) (changing (setupOf device) reg (putting mask bits))) (busOf (now (tape .entry)) (now (log .entry)) at) ⌝ }
+{
+    let mut data = [0u8; 1];
+    let read = device.read_raw(reg, &mut data, tape, log, at);
+    let answer = read.answer;
+    let next = read.at;
+    let RawAnswer::Done = answer else {
+        return Raw { answer, at: next };
+    };
+    let changed = [data[0] & !mask | bits];
+    let setup = device.setup();
+    setup.write_raw(reg, &changed, tape, log, next)
+}

@@ -1,0 +1,91 @@
+// The converter and the source of the temperature, bits 4 and 3 of register 04.
+ghost use mathlib.Core.Path.{_≡_};
+ghost use Rattle.bus.specs.Transfers.{busOf};
+ghost use Rattle.bus.specs.Programs.{onTape, ran};
+ghost use Rattle.bus.specs.Raw.{asRaw};
+ghost use Rattle.commands.specs.Answers.{asSource};
+ghost use Rattle.commands.specs.Bits.{placed};
+ghost use Rattle.commands.specs.Commands.{enableAdc, sourceBits, setTemperatureSource, sourceIn, temperatureSource};
+use crate::bits;
+use crate::bits::ByteAnswer;
+use bq769x0::BQ769x0;
+use bus::Cursor;
+use bus::raw::Raw;
+use refusals::Error;
+
+pub enum TemperatureSource {
+    InternalDie,
+    ExternalThermistor,
+}
+
+pub enum SourceAnswer {
+    Source(TemperatureSource),
+    Refused(Error),
+}
+
+pub struct SourceRead {
+    pub answer: SourceAnswer,
+    pub at: Cursor,
+}
+
+pub fn enable_adc(device: BQ769x0, enable: bool, tape: &[u8], log: &mut [u8], at: Cursor) -> Raw
+    ensures { λ r. ⌜ ran (asRaw (r .answer)) (now (tape .entry)) (now (log .exit)) (r .at)
+        ≡ onTape (enableAdc device enable) (busOf (now (tape .entry)) (now (log .entry)) at) ⌝ }
+{
+    let set = bits::placed(0b0001_0000, enable);
+    bits::change_bits(device, 0x04, 0b0001_0000, set, tape, log, at)
+}
+
+pub fn set_temperature_source(
+    device: BQ769x0,
+    source: TemperatureSource,
+    tape: &[u8],
+    log: &mut [u8],
+    at: Cursor,
+) -> Raw
+    ensures { λ r. ⌜ ran (asRaw (r .answer)) (now (tape .entry)) (now (log .exit)) (r .at)
+        ≡ onTape (setTemperatureSource device source) (busOf (now (tape .entry)) (now (log .entry)) at) ⌝ }
+{
+    let set = source_bits(source);
+    bits::change_bits(device, 0x04, 0b0000_1000, set, tape, log, at)
+}
+
+fn source_bits(source: TemperatureSource) -> u8
+    ensures { λ r. ⌜ r ≡ sourceBits source ⌝ }
+{
+    match source {
+        TemperatureSource::InternalDie => 0,
+        TemperatureSource::ExternalThermistor => 0b0000_1000,
+    }
+}
+
+pub fn temperature_source(device: BQ769x0, tape: &[u8], log: &mut [u8], at: Cursor) -> SourceRead
+    ensures { λ r. ⌜ ran (asSource (r .answer)) (now (tape .entry)) (now (log .exit)) (r .at)
+        ≡ onTape (temperatureSource device) (busOf (now (tape .entry)) (now (log .entry)) at) ⌝ }
+{
+    let read = bits::read_register(device, 0x04, tape, log, at);
+    let answer = read.answer;
+    let next = read.at;
+    match answer {
+        ByteAnswer::Byte(byte) => SourceRead {
+            answer: SourceAnswer::Source(source_in(byte)),
+            at: next,
+        },
+        ByteAnswer::Refused(e) => SourceRead {
+            answer: SourceAnswer::Refused(e),
+            at: next,
+        },
+    }
+}
+
+// The bit is cleared before it is tested, as in the Rust.
+fn source_in(byte: u8) -> TemperatureSource
+    ensures { λ r. ⌜ r ≡ sourceIn byte ⌝ }
+{
+    let cleared = byte & 0b1111_0111;
+    if bits::holds(0b0000_1000, cleared) {
+        TemperatureSource::ExternalThermistor
+    } else {
+        TemperatureSource::InternalDie
+    }
+}

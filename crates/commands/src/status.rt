@@ -1,0 +1,74 @@
+// The status register, 00.
+ghost use mathlib.Core.Path.{_≡_};
+ghost use Rattle.bus.specs.Transfers.{busOf};
+ghost use Rattle.bus.specs.Programs.{onTape, ran};
+ghost use Rattle.bus.specs.Raw.{asRaw};
+ghost use Rattle.commands.specs.Answers.{asStat};
+ghost use Rattle.commands.specs.Commands.{sysStat, sysStatReset};
+use crate::bits;
+use crate::bits::ByteAnswer;
+use bq769x0::BQ769x0;
+use bus::Cursor;
+use bus::raw::Raw;
+use bus::raw::RawAnswer;
+use refusals::Error;
+use units::flags::Stat;
+use units::flags::SysStat;
+
+pub enum StatAnswer {
+    Status(Stat),
+    Refused(Error),
+}
+
+pub struct StatRead {
+    pub answer: StatAnswer,
+    pub at: Cursor,
+}
+
+pub fn sys_stat(device: BQ769x0, tape: &[u8], log: &mut [u8], at: Cursor) -> StatRead
+    ensures { λ r. ⌜ ran (asStat (r .answer)) (now (tape .entry)) (now (log .exit)) (r .at)
+        ≡ onTape (sysStat device) (busOf (now (tape .entry)) (now (log .entry)) at) ⌝ }
+{
+    let read = bits::read_register(device, 0x00, tape, log, at);
+    let answer = read.answer;
+    let next = read.at;
+    match answer {
+        ByteAnswer::Byte(byte) => StatRead {
+            answer: StatAnswer::Status(Stat { bits: byte }),
+            at: next,
+        },
+        ByteAnswer::Refused(e) => StatRead {
+            answer: StatAnswer::Refused(e),
+            at: next,
+        },
+    }
+}
+
+// 9, then 18 for bit 6, which is no flag.
+pub fn sys_stat_reset(
+    device: BQ769x0,
+    flags: SysStat,
+    tape: &[u8],
+    log: &mut [u8],
+    at: Cursor,
+) -> Raw
+    ensures { λ r. ⌜ ran (asRaw (r .answer)) (now (tape .entry)) (now (log .exit)) (r .at)
+        ≡ onTape (sysStatReset device flags) (busOf (now (tape .entry)) (now (log .entry)) at) ⌝ }
+{
+    if !device.is_sound() {
+        return Raw {
+            answer: RawAnswer::Refused(Error::BadDevice),
+            at,
+        };
+    }
+    let byte = flags.bits;
+    if bits::holds(0b0100_0000, byte) {
+        return Raw {
+            answer: RawAnswer::Refused(Error::UnknownFlags),
+            at,
+        };
+    }
+    let reset = [byte];
+    let setup = device.setup();
+    setup.write_raw(0x00, &reset, tape, log, at)
+}

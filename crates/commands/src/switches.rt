@@ -1,0 +1,95 @@
+// The switches for discharging and charging, bits 1 and 0 of register 05.
+ghost use mathlib.Core.Path.{_≡_};
+ghost use Rattle.refusals.specs.Refusal.{refused};
+ghost use Rattle.bus.specs.Transfers.{busOf};
+ghost use Rattle.bus.specs.Programs.{onTape, ran};
+ghost use Rattle.bus.specs.Raw.{asRaw};
+ghost use Rattle.bq769x0.specs.Record.{nine, setupOf};
+ghost use Rattle.bq769x0.specs.Registers.{soundly};
+ghost use Rattle.commands.specs.Answers.{asFlag};
+ghost use Rattle.commands.specs.Bits.{switched, switching, changing};
+ghost use Rattle.commands.specs.Commands.{discharge, charge, isChargeEnabled};
+use crate::bits;
+use crate::bits::ByteAnswer;
+use bq769x0::BQ769x0;
+use bus::Cursor;
+use bus::raw::Raw;
+use bus::raw::RawAnswer;
+use refusals::Error;
+
+pub enum FlagAnswer {
+    Flag(bool),
+    Refused(Error),
+}
+
+pub struct FlagRead {
+    pub answer: FlagAnswer,
+    pub at: Cursor,
+}
+
+pub fn discharge(device: BQ769x0, enable: bool, tape: &[u8], log: &mut [u8], at: Cursor) -> Raw
+    ensures { λ r. ⌜ ran (asRaw (r .answer)) (now (tape .entry)) (now (log .exit)) (r .at)
+        ≡ onTape (discharge device enable) (busOf (now (tape .entry)) (now (log .entry)) at) ⌝ }
+{
+    switch_bit(device, 0b0000_0010, enable, tape, log, at)
+}
+
+pub fn charge(device: BQ769x0, enable: bool, tape: &[u8], log: &mut [u8], at: Cursor) -> Raw
+    ensures { λ r. ⌜ ran (asRaw (r .answer)) (now (tape .entry)) (now (log .exit)) (r .at)
+        ≡ onTape (charge device enable) (busOf (now (tape .entry)) (now (log .entry)) at) ⌝ }
+{
+    switch_bit(device, 0b0000_0001, enable, tape, log, at)
+}
+
+pub fn is_charge_enabled(device: BQ769x0, tape: &[u8], log: &mut [u8], at: Cursor) -> FlagRead
+    ensures { λ r. ⌜ ran (asFlag (r .answer)) (now (tape .entry)) (now (log .exit)) (r .at)
+        ≡ onTape (isChargeEnabled device) (busOf (now (tape .entry)) (now (log .entry)) at) ⌝ }
+{
+    let read = bits::read_register(device, BQ769x0::SYS_CTRL2, tape, log, at);
+    let answer = read.answer;
+    let next = read.at;
+    match answer {
+        ByteAnswer::Byte(byte) => FlagRead {
+            answer: FlagAnswer::Flag(bits::holds(0b0000_0001, byte)),
+            at: next,
+        },
+        ByteAnswer::Refused(e) => FlagRead {
+            answer: FlagAnswer::Refused(e),
+            at: next,
+        },
+    }
+}
+
+// No write where the bit stands so already.
+fn switch_bit(
+    device: BQ769x0,
+    mask: u8,
+    enable: bool,
+    tape: &[u8],
+    log: &mut [u8],
+    at: Cursor,
+) -> Raw
+    ensures { λ r. ⌜ ran (asRaw (r .answer)) (now (tape .entry)) (now (log .exit)) (r .at)
+        ≡ onTape (soundly device (refused nine) (changing (setupOf device) 0x05 (switching mask enable))) (busOf (now (tape .entry)) (now (log .entry)) at) ⌝ }
+{
+    let mut sys_ctrl2 = [0u8; 1];
+    let read = device.read_raw(BQ769x0::SYS_CTRL2, &mut sys_ctrl2, tape, log, at);
+    let answer = read.answer;
+    let next = read.at;
+    let RawAnswer::Done = answer else {
+        return Raw { answer, at: next };
+    };
+    let byte = sys_ctrl2[0];
+    if enable == bits::holds(mask, byte) {
+        return Raw { answer, at: next };
+    }
+    let changed = [switched(mask, enable, byte)];
+    let setup = device.setup();
+    setup.write_raw(BQ769x0::SYS_CTRL2, &changed, tape, log, next)
+}
+
+fn switched(mask: u8, enable: bool, byte: u8) -> u8
+    ensures { λ r. ⌜ r ≡ switched mask enable byte ⌝ }
+{
+    if enable { byte | mask } else { byte & !mask }
+}

@@ -1,0 +1,60 @@
+-- Lists in the place of a list's first elements, one element at a time; and the readings that bytes hold.
+-- Assumes nothing.
+use mathlib.Core.Path.{_≡_, refl, ap, _∙_}
+use mathlib.Core.List.{List, [], _∷_, map, append-assoc}
+use Prim.Native.Nat.{ℕ, zero, suc, _+_, _*_, _/_, _<_}
+use native.Mathlib.Omega.{arith}
+use native.Mathlib.Numerals.{add-one}
+use lib.IntN.{ℤ}
+use lib.ListN.{length, take, drop, getD, set, length-map, List·getD-map}
+use lib.Seq.{drop-cons, take-suc, take-all, take-at, set-at, length-take-le}
+use Rattle.signed.specs.Numbers.{word}
+use Rattle.adc.specs.Conversion.{millivolts}
+use Rattle.adc.specs.declared.transfer.AdcTransferFunction.{AdcTransferFunction}
+use Rattle.measuring.specs.Inputs.{_over_, readings, converted}
+
+-- one more
+pub over-step : {A : Type 0} (v l : List A) (i : ℕ) (d : A) → i < length v → i < length l
+    → set (take i v over l) i (getD v i d) ≡ take (i + 1) v over l
+over-step v l i d more room =
+    let now : length (take i v) ≡ i = length-take-le i v (omega arith) in
+    let then : length (take (suc i) v) ≡ suc i = length-take-le (suc i) v (omega arith) in
+    rw
+    (add-one, now, then, drop-cons l i d room, set-at (take i v) (getD l i d) (drop (suc i) l) (getD v i d) i now, take-suc v i d more, append-assoc)
+
+pub map-take : {A B : Type 0} (f : A → B) (n : ℕ) (l : List A) → map f (take n l) ≡ take n (map f l)
+map-take f zero l = refl
+map-take f (suc n) [] = refl
+map-take {B = B} f (suc n) (x ∷ xs) = ap (λ (r : List B). f x ∷ r) (map-take f n xs)
+
+pub length-readings : (bytes : List ℕ) → length (readings bytes) ≡ length bytes / 2
+length-readings [] = refl
+length-readings (high ∷ []) = refl
+length-readings (high ∷ low ∷ bytes) = omega (arith, length-readings bytes)
+
+reading-at : (bytes : List ℕ) (i : ℕ) → i * 2 + 1 < length bytes → getD (readings bytes) i 0 ≡ word (getD bytes (i * 2) 0) (getD bytes (i * 2 + 1) 0)
+reading-at [] i h = absurd (omega arith)
+reading-at (high ∷ []) i h = absurd (omega arith)
+reading-at (high ∷ low ∷ bytes) zero h = refl
+reading-at (high ∷ low ∷ bytes) (suc i) h =
+    let even : suc i * 2 ≡ suc (suc (i * 2)) = omega arith in
+    let odd : suc i * 2 + 1 ≡ suc (suc (i * 2 + 1)) = omega arith in
+    rw (odd, even) (reading-at bytes i (omega arith))
+
+module _ (adc : AdcTransferFunction) (bytes : List ℕ) where
+  pub length-converted : length (converted adc bytes) ≡ length bytes / 2
+  length-converted = length-map (readings bytes) (millivolts (adc .gain) (adc .offset)) ∙ length-readings bytes
+
+  pub converted-at : (i : ℕ) → i * 2 + 1 < length bytes
+      → getD (converted adc bytes) i (millivolts (adc .gain) (adc .offset) 0)
+      ≡ millivolts (adc .gain) (adc .offset) (word (getD bytes (i * 2) 0) (getD bytes (i * 2 + 1) 0))
+  converted-at i h =
+      List·getD-map (millivolts (adc .gain) (adc .offset)) (readings bytes) i 0
+      ∙ ap (millivolts (adc .gain) (adc .offset)) (reading-at bytes i h)
+
+  pub all-converted : take (length bytes / 2) (converted adc bytes) ≡ converted adc bytes
+  all-converted = take-all (length bytes / 2) (converted adc bytes) (omega (arith, length-converted))
+
+  pub back-converted : (n : ℕ) (l : List ℤ) → length bytes ≡ 2 * n → take n (converted adc bytes over l) ≡ converted adc bytes
+  back-converted n l e =
+      take-at (converted adc bytes) (drop (length (converted adc bytes)) l) n (omega (arith, length-converted, e))

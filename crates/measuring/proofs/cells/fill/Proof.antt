@@ -1,0 +1,79 @@
+-- `measuring::cells::fill` meets its contract: a turn goes on from i numbers to i + 1. Assumes nothing.
+use mathlib.Core.Path.{_≡_, refl, sym, ap, _∙_}
+use mathlib.Core.List.{List, map}
+use Prim.Native.Nat.{ℕ, _<_, _-_, _≤_, zero-le}
+use native.Mathlib.Omega.{arith}
+use lib.ListN.{length, take, set, getD, length-map, length-set, List·getD-map}
+use denote.Ref.{now}
+use Rattle.measuring.specs.Inputs.{_over_}
+use Rattle.measuring.specs.Cells.{volts}
+use Rattle.measuring.proofs.Lists.{over-step}
+use Rattle.measuring.proofs.cells.fill.Statement.{statement}
+use Rattle.measuring.proofs.cells.fill.Tie as tie
+
+abbrev Inv-loop : tie.InvT-loop
+Inv-loop n list₀ cells i₀ list i = (i ≤ n) × (list ≡ take i (map volts cells) over list₀) × (length list ≡ length list₀) × (length cells ≡ 15)
+
+abbrev μ-loop : tie.MeasureT-loop
+μ-loop n list₀ cells i₀ list i = n - i
+
+loop-holds : tie.Need-loop-holds Inv-loop μ-loop
+loop-holds c = (zero-le, refl, refl, c .good .1 .0 .1 .0 .1)
+
+mul-cell : tie.Need-mul-cell Inv-loop μ-loop
+mul-cell c = omega arith
+
+array-copy-out-cell : tie.Need-array-copy-out-cell Inv-loop μ-loop
+array-copy-out-cell c = omega arith
+
+mul-list : tie.Need-mul-list Inv-loop μ-loop
+mul-list c = omega arith
+
+slice-write-list : tie.Need-slice-write-list Inv-loop μ-loop
+slice-write-list c = omega arith
+
+add-i : tie.Need-add-i Inv-loop μ-loop
+add-i c = omega arith
+
+loop-less : tie.Need-loop-less Inv-loop μ-loop
+loop-less c = omega arith
+
+loop-again : tie.Need-loop-again Inv-loop μ-loop
+loop-again c =
+    let l = c .before .before .loop in
+    let cells = c .before .before .before .args .t2 in
+    let list = now (c .before .before .before .args .list) in
+    let vs = map volts cells in
+    let more : l .i < length vs = rw (length-map cells volts) (omega arith) in (
+      omega arith,
+      ap (λ (x : List ℕ). set x (l .i) (getD cells (l .i) (record { 0 = 0 }) .0)) (l .inv .1)
+          ∙ ap (set (take (l .i) vs over list) (l .i)) (sym (List·getD-map volts cells (l .i) (record { 0 = 0 })))
+          ∙ over-step vs list (l .i) 0 more (omega arith),
+      simp length-set (l .inv .2),
+      l .inv .3,
+    )
+
+same-length : tie.Need-same-length Inv-loop μ-loop
+same-length c = c .before .loop .inv .2
+
+returns : tie.Need-returns Inv-loop μ-loop
+returns c =
+    let e : c .before .loop .i ≡ c .before .before .args .n = omega arith in
+    c .before .loop .inv .1 ∙ rw e
+
+pub fill-spec : {M : Type 1} → statement M
+fill-spec =
+    tie.close
+    (tie.spec
+    Inv-loop
+    μ-loop
+    loop-holds
+    mul-cell
+    array-copy-out-cell
+    mul-list
+    slice-write-list
+    add-i
+    loop-less
+    loop-again
+    same-length
+    returns)

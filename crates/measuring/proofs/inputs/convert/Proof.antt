@@ -1,0 +1,102 @@
+-- `measuring::inputs::convert` meets its contract: a turn goes on from i inputs to i + 1. Assumes nothing.
+use mathlib.Core.Path.{_≡_, refl, sym, ap, _∙_}
+use mathlib.Core.List.{List}
+use Prim.Native.Nat.{_-_, _/_, _≤_, zero-le}
+use native.Mathlib.Omega.{arith}
+use lib.IntN.{ℤ, pos}
+use lib.ListN.{length, replicate, set, take}
+use mir.Syntax.{w32}
+use mir.Val.{toZ, ofZ}
+use denote.Ref.{now}
+use Rattle.signed.proofs.Signed.{read-back}
+use Rattle.adc.specs.Conversion.{millivolts}
+use Rattle.measuring.specs.Inputs.{_over_, converted}
+use Rattle.measuring.proofs.Lists.{over-step, length-converted, converted-at, all-converted}
+use Rattle.measuring.proofs.inputs.convert.Statement.{statement}
+use Rattle.measuring.proofs.inputs.convert.Tie as tie
+
+abbrev Inv-loop : tie.InvT-loop
+Inv-loop adc buf inputs₀ n i₀ inputs i = (i ≤ n) × (inputs ≡ take i (converted adc buf) over replicate 15 (pos 0))
+
+abbrev μ-loop : tie.MeasureT-loop
+μ-loop adc buf inputs₀ n i₀ inputs i = n - i
+
+loop-holds : tie.Need-loop-holds Inv-loop μ-loop
+loop-holds c = (zero-le, refl)
+
+mul-be-u16 : tie.Need-mul-be-u16 Inv-loop μ-loop
+mul-be-u16 c = omega arith
+
+shared-slice-read-be-u16 : tie.Need-shared-slice-read-be-u16 Inv-loop μ-loop
+shared-slice-read-be-u16 c = omega arith
+
+mul-be-u16-2 : tie.Need-mul-be-u16-2 Inv-loop μ-loop
+mul-be-u16-2 c = omega arith
+
+add-be-u16 : tie.Need-add-be-u16 Inv-loop μ-loop
+add-be-u16 c = omega arith
+
+shared-slice-read-be-u16-2 : tie.Need-shared-slice-read-be-u16-2 Inv-loop μ-loop
+shared-slice-read-be-u16-2 c = omega arith
+
+be-u16-requires : tie.Need-be-u16-requires Inv-loop μ-loop
+be-u16-requires c κs = tt
+
+millivolts-requires : tie.Need-millivolts-requires Inv-loop μ-loop
+millivolts-requires c κs = tt
+
+mul-inputs : tie.Need-mul-inputs Inv-loop μ-loop
+mul-inputs c = omega arith
+
+array-set-from-inputs : tie.Need-array-set-from-inputs Inv-loop μ-loop
+array-set-from-inputs c = omega arith
+
+add-i : tie.Need-add-i Inv-loop μ-loop
+add-i c = omega arith
+
+loop-less : tie.Need-loop-less Inv-loop μ-loop
+loop-less c = omega arith
+
+loop-again : tie.Need-loop-again Inv-loop μ-loop
+loop-again c =
+    let a = c .before .before .before .before .before .before .before .args in
+    let i = c .before .before .before .before .before .loop .i in
+    let zeros : List ℤ = replicate 15 (pos 0) in
+    let at = converted-at (a .adc) (now (a .buf)) i (omega arith) in
+    let made =
+    read-back w32 _ (c .millivolts .ok)
+    ∙ c .millivolts .ensures
+    ∙ ap (millivolts (a .adc .gain) (a .adc .offset)) (c .before .be-u16 .ensures)
+    ∙ sym at in (
+      omega arith,
+      ap (λ (l : List ℤ). set l i (toZ w32 (ofZ w32 (c .millivolts .result)))) (c .before .before .before .before .before .loop .inv .1)
+          ∙ ap (set (take i (converted (a .adc) (now (a .buf))) over zeros) i) made
+          ∙ over-step (converted (a .adc) (now (a .buf))) zeros i _ (omega (arith, length-converted (a .adc) (now (a .buf)))) (omega arith),
+    )
+
+returns : tie.Need-returns Inv-loop μ-loop
+returns c =
+    let a = c .before .before .before .args in
+    let e : c .before .loop .i ≡ length (now (a .buf)) / 2 = omega arith in
+    c .before .loop .inv .1 ∙ rw (e, all-converted (a .adc) (now (a .buf)))
+
+pub convert-spec : {M : Type 1} → statement M
+convert-spec =
+    tie.close
+    (tie.spec
+    Inv-loop
+    μ-loop
+    loop-holds
+    mul-be-u16
+    shared-slice-read-be-u16
+    mul-be-u16-2
+    add-be-u16
+    shared-slice-read-be-u16-2
+    be-u16-requires
+    millivolts-requires
+    mul-inputs
+    array-set-from-inputs
+    add-i
+    loop-less
+    loop-again
+    returns)

@@ -1,0 +1,42 @@
+-- The chip's inputs, from register 0C on, two bytes each, high first: read at once, and each converted to millivolts.
+-- Assumes nothing.
+use Prim.Native.Nat.{ℕ, _*_}
+use mathlib.Core.List.{List, [], _∷_, _++_, map}
+use lib.IntN.{ℤ}
+use lib.ListN.{length, drop}
+use Rattle.signed.specs.Numbers.{word, asU32}
+use Rattle.refusals.specs.Refusal.{Answer, value, refused}
+use Rattle.adc.specs.Conversion.{millivolts}
+use Rattle.adc.specs.declared.transfer.AdcTransferFunction.{AdcTransferFunction}
+use Rattle.units.specs.declared.MilliVolts.{MilliVolts}
+use Rattle.bus.specs.Programs.{Prog, ret, _orLeave_, _>>=_}
+use Rattle.bus.specs.Raw.{readBytes}
+use Rattle.bq769x0.specs.Record.{setupOf, adcOf}
+use Rattle.bq769x0.specs.declared.BQ769x0.{BQ769x0}
+
+-- l with v in place of its first elements
+infixl 6 _over_
+abbrev pub _over_ : {A : Type 0} → List A → List A → List A
+v over l = v ++ drop (length v) l
+
+-- each two bytes as one reading
+abbrev pub readings : List ℕ → List ℕ
+readings [] = []
+readings (high ∷ []) = []
+readings (high ∷ low ∷ bytes) = word high low ∷ readings bytes
+
+-- the exact quotients, with their signs
+abbrev pub converted : AdcTransferFunction → List ℕ → List ℤ
+converted adc bytes = map (millivolts (adc .gain) (adc .offset)) (readings bytes)
+
+-- as the record holds them, below zero 2^32 less the size
+abbrev pub asCell : ℤ → MilliVolts
+asCell z = record { 0 = asU32 z }
+
+abbrev pub asCells : List ℤ → List MilliVolts
+asCells = map asCell
+
+unfoldable pub readInputs : BQ769x0 → Prog (Answer (List ℤ))
+readInputs d = do
+  bytes ← readBytes (setupOf d) 0x0C (2 * d .x) orLeave refused
+  ret (value (converted (adcOf d) bytes))

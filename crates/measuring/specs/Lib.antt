@@ -1,0 +1,6 @@
+pub mod Inputs
+pub mod Moves
+pub mod Cells
+pub mod Word
+pub mod Pack
+pub mod Temperature

@@ -1,0 +1,20 @@
+-- Two registers as one number, the high byte first, as a program.
+-- Assumes nothing.
+use Prim.Native.Nat.{ℕ}
+use lib.ListN.{getD}
+use Rattle.signed.specs.Numbers.{word}
+use Rattle.refusals.specs.Refusal.{Answer, value, refused, told}
+use Rattle.bus.specs.Programs.{Prog, ret, _orLeave_, _>>=_}
+use Rattle.bus.specs.Raw.{readBytes}
+use Rattle.bus.specs.declared.raw.Setup.{Setup}
+use Rattle.measuring.specs.declared.word.WordAnswer.{WordAnswer}
+use Rattle.measuring.specs.declared.word.WordAnswer.the-variants as W
+
+abbrev pub asWord : WordAnswer → Answer ℕ
+asWord (W.Word n) = value n
+asWord (W.Refused e) = refused (told e)
+
+unfoldable pub readWord : Setup → ℕ → Prog (Answer ℕ)
+readWord s reg = do
+  bytes ← readBytes s reg 2 orLeave refused
+  ret (value (word (getD bytes 0 0) (getD bytes 1 0)))

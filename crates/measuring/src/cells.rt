@@ -1,0 +1,138 @@
+// The cells: read, stored in the record, and filled into the caller's list.
+ghost use mathlib.Core.Path.{_≡_};
+ghost use Prim.Native.Nat.{_≤_};
+ghost use lib.ListN.{length, take};
+ghost use Rattle.bus.specs.Transfers.{busOf};
+ghost use Rattle.bus.specs.Programs.{onTape, ran};
+ghost use Rattle.bus.specs.Raw.{asRaw};
+ghost use Rattle.measuring.specs.Inputs.{_over_, asCells};
+ghost use Rattle.measuring.specs.Cells.{filled, firstCells, handed, taking, readCells, cellVoltages};
+use crate::inputs;
+use crate::moves;
+use bq769x0::BQ769x0;
+use bus::Cursor;
+use bus::raw::RawAnswer;
+use refusals::Error;
+use units::MilliVolts;
+
+pub struct Cells {
+    pub answer: RawAnswer,
+    pub device: BQ769x0,
+    pub at: Cursor,
+}
+
+pub fn cell_voltages(
+    device: BQ769x0,
+    list: &mut [u32],
+    tape: &[u8],
+    log: &mut [u8],
+    at: Cursor,
+) -> Cells
+    ensures { λ r. ⌜ ran (filled (asRaw (r .answer)) (r .device) (now (list .exit))) (now (tape .entry)) (now (log .exit)) (r .at)
+        ≡ onTape (cellVoltages device (now (list .entry))) (busOf (now (tape .entry)) (now (log .entry)) at) ⌝ }
+{
+    if !device.is_sound() {
+        return refuse(Error::BadDevice, device, at);
+    }
+    if !device.init_complete {
+        return refuse(Error::Uninitialized, device, at);
+    }
+    if list.len() < device.cell_count as usize {
+        return refuse(Error::NoRoom, device, at);
+    }
+    read_cells(device, list, tape, log, at)
+}
+
+fn refuse(e: Error, device: BQ769x0, at: Cursor) -> Cells
+    ensures { λ r. ⌜ (r .answer ≡ RawAnswer.Refused e) × (r .device ≡ device) × (r .at ≡ at) ⌝ }
+{
+    Cells {
+        answer: RawAnswer::Refused(e),
+        device,
+        at,
+    }
+}
+
+// On a record and a list that pass the tests; where the read is refused nothing of either is touched.
+fn read_cells(device: BQ769x0, list: &mut [u32], tape: &[u8], log: &mut [u8], at: Cursor) -> Cells
+    requires { ⌜ (device .x ≤ 15) × (device .«cell_count» ≤ 15) ⌝ }
+    requires { ⌜ device .«cell_count» ≤ length (now list) ⌝ }
+    ensures { λ r. ⌜ ran (filled (asRaw (r .answer)) (r .device) (now (list .exit))) (now (tape .entry)) (now (log .exit)) (r .at)
+        ≡ onTape (readCells device (now (list .entry))) (busOf (now (tape .entry)) (now (log .entry)) at) ⌝ }
+{
+    let n = device.cell_count as usize;
+    let read = inputs::read_inputs(device, tape, log, at);
+    let answer = read.answer;
+    let millivolts = read.millivolts;
+    let next = read.at;
+    let RawAnswer::Done = answer else {
+        return Cells {
+            answer,
+            device,
+            at: next,
+        };
+    };
+    let device = take_inputs(device, millivolts);
+    let cells = device.cells;
+    fill(n, cells, list);
+    Cells {
+        answer,
+        device,
+        at: next,
+    }
+}
+
+// The leading part of the list, filled from the record; nothing where the count exceeds the list or 15.
+pub fn cells_of<'a>(device: BQ769x0, list: &'a mut [u32]) -> &'a mut [u32]
+    ensures { λ r. ⌜ (now r ≡ handed (device .«cell_count») (device .cells) (length (now (list .entry)))) × (r .ptr ≡ list .entry .ptr) ⌝ }
+{
+    let n = device.cell_count as usize;
+    if list.len() < n {
+        return &mut list[..0];
+    }
+    if 15 < n {
+        return &mut list[..0];
+    }
+    let cells = device.cells;
+    fill(n, cells, list);
+    &mut list[..n]
+}
+
+// The inputs, stored in the record; the moves go over them.
+fn take_inputs(device: BQ769x0, inputs: [i32; 15]) -> BQ769x0
+    requires { ⌜ device .x ≤ 15 ⌝ }
+    ensures { λ r. ⌜ r ≡ taking device (take (device .x) inputs) ⌝ }
+{
+    let x = device.x;
+    let cell_count = device.cell_count;
+    let held = device.cells;
+    let cells = stored(x as usize, inputs, held);
+    device.store_cells(moves::in_turn(x, cell_count, cells))
+}
+
+fn stored(n: usize, inputs: [i32; 15], cells: [MilliVolts; 15]) -> [MilliVolts; 15]
+    requires { ⌜ n ≤ 15 ⌝ }
+    ensures { λ r. ⌜ r ≡ asCells (take n inputs) over cells ⌝ }
+{
+    let mut out = cells;
+    let mut i = 0;
+    while i < n {
+        let input = inputs[i];
+        out[i] = MilliVolts(signed::as_u32(input));
+        i += 1;
+    }
+    out
+}
+
+// The first n of the cells, over the list's first n.
+fn fill(n: usize, cells: [MilliVolts; 15], list: &mut [u32])
+    requires { ⌜ (n ≤ 15) × (n ≤ length (now list)) ⌝ }
+    ensures { λ _. ⌜ now (list .exit) ≡ firstCells n cells over now (list .entry) ⌝ }
+{
+    let mut i = 0;
+    while i < n {
+        let cell = cells[i];
+        list[i] = cell.0;
+        i += 1;
+    }
+}

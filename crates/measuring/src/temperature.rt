@@ -1,0 +1,96 @@
+// The temperature: the crate's reading in µV, named degrees, and where it comes from.
+ghost use mathlib.Core.Path.{_≡_};
+ghost use Rattle.bus.specs.Transfers.{busOf};
+ghost use Rattle.bus.specs.Programs.{onTape, ran};
+ghost use Rattle.measuring.specs.Temperature.{asSensed, withSource, sense, asTemperature, temperature};
+use crate::degrees;
+use crate::degrees::Temperature;
+use crate::word;
+use crate::word::WordAnswer;
+use bq769x0::BQ769x0;
+use bus::Cursor;
+use commands::control;
+use commands::control::SourceAnswer;
+use commands::control::TemperatureSource;
+use refusals::Error;
+
+pub enum TemperatureAnswer {
+    Degrees(Temperature),
+    Refused(Error),
+}
+
+pub struct TemperatureRead {
+    pub answer: TemperatureAnswer,
+    pub at: Cursor,
+}
+
+enum SensedAnswer {
+    Sensed(u16, TemperatureSource),
+    Refused(Error),
+}
+
+struct SensedRead {
+    pub answer: SensedAnswer,
+    pub at: Cursor,
+}
+
+pub fn temperature(device: BQ769x0, tape: &[u8], log: &mut [u8], at: Cursor) -> TemperatureRead
+    ensures { λ r. ⌜ ran (asTemperature (r .answer)) (now (tape .entry)) (now (log .exit)) (r .at)
+        ≡ onTape (temperature device) (busOf (now (tape .entry)) (now (log .entry)) at) ⌝ }
+{
+    if !device.is_sound() {
+        return TemperatureRead {
+            answer: TemperatureAnswer::Refused(Error::BadDevice),
+            at,
+        };
+    }
+    let sensed = sense(device, tape, log, at);
+    let answer = sensed.answer;
+    let next = sensed.at;
+    match answer {
+        SensedAnswer::Sensed(ts, source) => TemperatureRead {
+            answer: TemperatureAnswer::Degrees(degrees::of_reading(ts, source)),
+            at: next,
+        },
+        SensedAnswer::Refused(e) => TemperatureRead {
+            answer: TemperatureAnswer::Refused(e),
+            at: next,
+        },
+    }
+}
+
+// The reading, and then its source.
+fn sense(device: BQ769x0, tape: &[u8], log: &mut [u8], at: Cursor) -> SensedRead
+    ensures { λ r. ⌜ ran (asSensed (r .answer)) (now (tape .entry)) (now (log .exit)) (r .at)
+        ≡ onTape (sense device) (busOf (now (tape .entry)) (now (log .entry)) at) ⌝ }
+{
+    let read = word::read_word(device, 0x2c, tape, log, at);
+    let answer = read.answer;
+    let next = read.at;
+    match answer {
+        WordAnswer::Word(ts) => with_source(ts, device, tape, log, next),
+        WordAnswer::Refused(e) => SensedRead {
+            answer: SensedAnswer::Refused(e),
+            at: next,
+        },
+    }
+}
+
+fn with_source(ts: u16, device: BQ769x0, tape: &[u8], log: &mut [u8], at: Cursor) -> SensedRead
+    ensures { λ r. ⌜ ran (asSensed (r .answer)) (now (tape .entry)) (now (log .exit)) (r .at)
+        ≡ onTape (withSource ts device) (busOf (now (tape .entry)) (now (log .entry)) at) ⌝ }
+{
+    let read = control::temperature_source(device, tape, log, at);
+    let answer = read.answer;
+    let next = read.at;
+    match answer {
+        SourceAnswer::Source(source) => SensedRead {
+            answer: SensedAnswer::Sensed(ts, source),
+            at: next,
+        },
+        SourceAnswer::Refused(e) => SensedRead {
+            answer: SensedAnswer::Refused(e),
+            at: next,
+        },
+    }
+}

@@ -1,0 +1,47 @@
+// Two registers as one number, the high byte first.
+ghost use mathlib.Core.Path.{_≡_};
+ghost use Rattle.bus.specs.Transfers.{busOf};
+ghost use Rattle.bus.specs.Programs.{onTape, ran};
+ghost use Rattle.bq769x0.specs.Record.{setupOf};
+ghost use Rattle.measuring.specs.Word.{asWord, readWord};
+use bq769x0::BQ769x0;
+use bus::Cursor;
+use bus::raw::RawAnswer;
+use refusals::Error;
+
+pub(crate) enum WordAnswer {
+    Word(u16),
+    Refused(Error),
+}
+
+pub(crate) struct WordRead {
+    pub answer: WordAnswer,
+    pub at: Cursor,
+}
+
+pub(crate) fn read_word(
+    device: BQ769x0,
+    reg: u8,
+    tape: &[u8],
+    log: &mut [u8],
+    at: Cursor,
+) -> WordRead
+    ensures { λ r. ⌜ ran (asWord (r .answer)) (now (tape .entry)) (now (log .exit)) (r .at)
+        ≡ onTape (readWord (setupOf device) reg) (busOf (now (tape .entry)) (now (log .entry)) at) ⌝ }
+{
+    let setup = device.setup();
+    let mut bytes = [0u8; 2];
+    let read = setup.read_raw(reg, &mut bytes, tape, log, at);
+    let answer = read.answer;
+    let next = read.at;
+    match answer {
+        RawAnswer::Done => WordRead {
+            answer: WordAnswer::Word(signed::be_u16(bytes[0], bytes[1])),
+            at: next,
+        },
+        RawAnswer::Refused(e) => WordRead {
+            answer: WordAnswer::Refused(e),
+            at: next,
+        },
+    }
+}

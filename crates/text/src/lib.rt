@@ -1,0 +1,149 @@
+// What the programs print on standard output: numbers, a log's transfers, and what an init answered.
+ghost use Prim.Native.Nat.{_≤_};
+use libc::STDOUT_FILENO;
+
+pub fn words(text: &[u8]) {
+    io::write_all(STDOUT_FILENO, text);
+}
+
+fn digit(d: u8) -> u8 {
+    if d < 10 {
+        48 + d
+    } else if d < 16 {
+        55 + d
+    } else {
+        63
+    }
+}
+
+// Two digits, in upper case, after a blank.
+pub fn hex(b: u8) {
+    let text = [32, digit(b / 16), digit(b % 16)];
+    words(&text);
+}
+
+// After a blank, in decimal.
+pub fn number(n: u64) {
+    words(b" ");
+    io::print_decimal(STDOUT_FILENO, n);
+}
+
+// The same, of a number that may be below zero.
+pub fn signed_number(n: i32) {
+    let bits = signed::as_u32(n);
+    if n < 0 {
+        words(b" -");
+        io::print_decimal(STDOUT_FILENO, std::num::wrapping_sub_u32(0, bits) as u64);
+    } else {
+        number(bits as u64);
+    }
+}
+
+// The byte k places after place i, or 0 past the end.
+fn byte(bytes: &[u8], i: usize, k: usize) -> u8 {
+    if bytes.len() <= i {
+        return 0;
+    }
+    if bytes.len() - i <= k {
+        return 0;
+    }
+    bytes[i + k]
+}
+
+fn four(bytes: &[u8], i: usize) -> u64 {
+    let high = byte(bytes, i, 0) as u64 * 256 + byte(bytes, i, 1) as u64;
+    let low = byte(bytes, i, 2) as u64 * 256 + byte(bytes, i, 3) as u64;
+    high * 65536 + low
+}
+
+// The number whose four bytes, high first, stand at place i.
+pub fn number_at(bytes: &[u8], i: usize) {
+    number(four(bytes, i));
+}
+
+fn sent(log: &[u8], i: usize, size: usize) {
+    let mut k = 4;
+    while k < size {
+        hex(byte(log, i, k));
+        k += 1;
+    }
+}
+
+// A write is its register and the bytes sent after it, a read its register and the count of bytes on the bus.
+fn field(log: &[u8], i: usize, size: usize) {
+    if byte(log, i, 0) == 0x11 {
+        words(b"W");
+        sent(log, i, size);
+    } else {
+        words(b"R");
+        hex(byte(log, i, 4));
+        number(byte(log, i, 5) as u64 * 256 + byte(log, i, 6) as u64);
+    }
+    words(b"\n");
+}
+
+// The field's size, with its tag and length.
+fn size(log: &[u8], i: usize) -> usize
+    ensures { λ r. ⌜ 3 ≤ r ⌝ }
+{
+    3 + byte(log, i, 1) as usize * 256 + byte(log, i, 2) as usize
+}
+
+fn least(a: usize, b: usize) -> usize {
+    if a < b { a } else { b }
+}
+
+// A line for each field of the part of the log that starts at one place and ends before another, or where the log ends.
+pub fn transfers(log: &[u8], from: usize, before: usize) {
+    let end = least(before, log.len());
+    let mut i = from;
+    while i < end {
+        let size = size(log, i);
+        field(log, i, size);
+        if end - i < size {
+            return;
+        }
+        i += size;
+    }
+}
+
+// Of an init's number and the 36 bytes with it: what it reports, or what it refuses with.
+pub fn answer(refusal: u8, out: &[u8]) {
+    if refusal == 0 {
+        accepted(out);
+    } else {
+        refused(refusal, out);
+    }
+    words(b"\n");
+}
+
+fn accepted(out: &[u8]) {
+    words(b"init range");
+    number_at(out, 16);
+    words(b" scd");
+    number_at(out, 20);
+    words(b" ocd");
+    number_at(out, 24);
+    words(b" uv");
+    number_at(out, 28);
+    words(b" ov");
+    number_at(out, 32);
+}
+
+fn refused(refusal: u8, out: &[u8]) {
+    words(b"refused");
+    number(refusal as u64);
+    let figures = four(out, 16);
+    if 0 < figures {
+        number_at(out, 20);
+    }
+    if 1 < figures {
+        number_at(out, 24);
+    }
+}
+
+// The transfers in the log, as far as the 36 bytes say that it is used, and the answer.
+pub fn init(refusal: u8, log: &[u8], out: &[u8]) {
+    transfers(log, 0, four(out, 12) as usize);
+    answer(refusal, out);
+}
