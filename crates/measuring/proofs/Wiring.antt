@@ -12,13 +12,31 @@ use Rattle.units.specs.declared.MilliVolts.{MilliVolts}
 use Rattle.measuring.specs.Moves.{Move, moves, movedIf, inTurn}
 use Rattle.measuring.specs.Cells.{named, inputsOf}
 
--- BQ76930, 10 cells
-pub ten-cells : inputsOf 10 10 ≡ 1 ∷ 2 ∷ 3 ∷ 5 ∷ 5 ∷ 6 ∷ 7 ∷ 10 ∷ 9 ∷ 10 ∷ []
-ten-cells = refl
+-- inputs, cells, and which inputs the answer lists, for every device and count
+abbrev Pack : Type 0
+Pack = ℕ × ℕ × List ℕ
 
--- BQ76930, 6 cells
-pub six-cells : inputsOf 10 6 ≡ 1 ∷ 2 ∷ 5 ∷ 4 ∷ 5 ∷ 6 ∷ []
-six-cells = refl
+abbrev packs : List Pack
+packs =
+    (5, 3, 1 ∷ 2 ∷ 5 ∷ []) ∷
+    (5, 4, 1 ∷ 2 ∷ 3 ∷ 5 ∷ []) ∷
+    (5, 5, 1 ∷ 2 ∷ 3 ∷ 4 ∷ 5 ∷ []) ∷
+    (10, 6, 1 ∷ 2 ∷ 5 ∷ 4 ∷ 5 ∷ 6 ∷ []) ∷
+    (10, 7, 1 ∷ 2 ∷ 3 ∷ 5 ∷ 5 ∷ 6 ∷ 7 ∷ []) ∷
+    (10, 8, 1 ∷ 2 ∷ 3 ∷ 5 ∷ 5 ∷ 6 ∷ 7 ∷ 8 ∷ []) ∷
+    (10, 9, 1 ∷ 2 ∷ 5 ∷ 4 ∷ 5 ∷ 6 ∷ 7 ∷ 10 ∷ 10 ∷ []) ∷
+    (10, 10, 1 ∷ 2 ∷ 3 ∷ 5 ∷ 5 ∷ 6 ∷ 7 ∷ 10 ∷ 9 ∷ 10 ∷ []) ∷
+    (15, 9, 1 ∷ 2 ∷ 5 ∷ 4 ∷ 5 ∷ 6 ∷ 7 ∷ 10 ∷ 10 ∷ []) ∷
+    (15, 10, 1 ∷ 2 ∷ 3 ∷ 5 ∷ 5 ∷ 6 ∷ 7 ∷ 10 ∷ 9 ∷ 10 ∷ []) ∷
+    (15, 11, 1 ∷ 2 ∷ 3 ∷ 5 ∷ 5 ∷ 6 ∷ 7 ∷ 8 ∷ 10 ∷ 10 ∷ 11 ∷ []) ∷
+    (15, 12, 1 ∷ 2 ∷ 3 ∷ 5 ∷ 5 ∷ 6 ∷ 7 ∷ 8 ∷ 10 ∷ 10 ∷ 11 ∷ 12 ∷ []) ∷
+    (15, 13, 1 ∷ 2 ∷ 3 ∷ 4 ∷ 5 ∷ 6 ∷ 7 ∷ 8 ∷ 10 ∷ 10 ∷ 11 ∷ 12 ∷ 13 ∷ []) ∷
+    (15, 14, 1 ∷ 2 ∷ 3 ∷ 4 ∷ 5 ∷ 6 ∷ 7 ∷ 8 ∷ 9 ∷ 10 ∷ 11 ∷ 12 ∷ 13 ∷ 15 ∷ []) ∷
+    (15, 15, 1 ∷ 2 ∷ 3 ∷ 4 ∷ 5 ∷ 6 ∷ 7 ∷ 8 ∷ 9 ∷ 10 ∷ 11 ∷ 12 ∷ 13 ∷ 14 ∷ 15 ∷ []) ∷
+    []
+
+pub every-pack : map (λ (p : Pack). inputsOf (p .0) (p .1)) packs ≡ map (λ (p : Pack). p .2) packs
+every-pack = refl
 
 -- ---- no place that a move reads is one that a move writes
 abbrev apart : ℕ → List ℕ → Bool
