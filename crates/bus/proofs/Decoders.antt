@@ -13,7 +13,7 @@ use lib.Dec.{leb}
 use borrow.Author.Tests.{le-leb, leb-true, eq-eqb}
 use Rattle.signed.specs.Numbers.{word}
 use Rattle.bus.specs.Fields.{if_then_else_, field, Field, unfield}
-use Rattle.bus.specs.Decoders.{unlog}
+use Rattle.bus.specs.Decoders.{unlog, transfersIn}
 use Rattle.bus.specs.Transfers.{Transfer, write, read, Outcome, done, fault, stopped, logField, tapeField, untape, says}
 use Rattle.bus.proofs.Framed.{Made, logged}
 
@@ -94,16 +94,6 @@ says-tape n (fault bytes) rest f = says-field n _ bytes rest (f .1) ∙ rw (le-l
 says-tape n (stopped r) rest f = absurd f
 
 -- ---- a whole log
-
--- the transfers whose fields these bytes are, in order, in at most so many steps; none where they are no such fields
-unfoldable pub transfersIn : ℕ → List ℕ → Option (List Transfer)
-transfersIn zero [] = some []
-transfersIn zero (x ∷ bytes) = none
-transfersIn (suc n) [] = some []
-transfersIn (suc n) (x ∷ bytes) =
-    bind (unfield (x ∷ bytes)) λ f.
-    bind (unlog f) λ t.
-    Option·map (λ (ts : List Transfer). t ∷ ts) (transfersIn n (f .rest))
 
 abbrev pub AllShort : List Made → Type 0
 AllShort [] = Unit

@@ -1,12 +1,13 @@
--- The log read back: the transfer that a field stands for. (The tape's fields are read back by `unfield` and `untape`.)
+-- The log read back: the transfer that a field stands for, and those of a whole log. (The tape's fields are read back by `unfield` and `untape`.)
 -- Assumes nothing.
-use Prim.Native.Nat.{ℕ}
+use Prim.Native.Nat.{ℕ, zero, suc}
 use mathlib.Core.Bool.{_&&_}
-use mathlib.Core.Option.{Option, none, some}
+use mathlib.Core.List.{List, [], _∷_}
+use mathlib.Core.Option.{Option, none, some, bind, Option·map}
 use lib.ListN.{length, drop, getD}
 use lib.Dec.{leb, eqb}
 use Rattle.signed.specs.Numbers.{word}
-use Rattle.bus.specs.Fields.{if_then_else_, Field}
+use Rattle.bus.specs.Fields.{if_then_else_, Field, unfield}
 use Rattle.bus.specs.Transfers.{Transfer, write, read}
 
 unfoldable pub unlog : Field → Option Transfer
@@ -17,3 +18,13 @@ unlog f =
     else if eqb (f .tag) 0x12 && eqb (length (f .value)) 4
     then some (read (at 0) (at 1) (word (at 2) (at 3)))
     else none
+
+-- the transfers whose fields these bytes are, in order, in at most so many steps; none where they are no such fields
+unfoldable pub transfersIn : ℕ → List ℕ → Option (List Transfer)
+transfersIn zero [] = some []
+transfersIn zero (x ∷ bytes) = none
+transfersIn (suc n) [] = some []
+transfersIn (suc n) (x ∷ bytes) =
+    bind (unfield (x ∷ bytes)) λ f.
+    bind (unlog f) λ t.
+    Option·map (λ (ts : List Transfer). t ∷ ts) (transfersIn n (f .rest))

@@ -14,7 +14,8 @@ use Rattle.bus.specs.Transfers.{Transfer, write, read, Outcome, done, fault, st
 use Rattle.bus.specs.Programs.{Prog, ret, ask}
 use Rattle.bus.specs.Raw.{readBytes, writeRaw}
 use Rattle.bus.specs.declared.raw.Setup.{Setup}
-use Rattle.bus.proofs.Decoders.{Short, Fitting, transfersIn, AllShort, transfers-logged}
+use Rattle.bus.specs.Decoders.{transfersIn}
+use Rattle.bus.proofs.Decoders.{Short, Fitting, AllShort, transfers-logged}
 use Rattle.bus.proofs.Framed.{Made, logged, taken}
 use Rattle.chip.specs.Devices.{Reached, reached, onDevice, madeOn, logOf, tapeOf}
 use Rattle.chip.specs.Chip.{answers, carried, respond, respondCut}

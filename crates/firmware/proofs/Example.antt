@@ -17,7 +17,7 @@ use Rattle.settings.specs.Plan.{setFor, planFor}
 use Rattle.settings.specs.Registers.{protectFor}
 use Rattle.settings.specs.Steps.{shuntFor, stepsFor}
 use Rattle.settings.specs.Trips.{tripCodeFor, obtainableOr, withinFor}
-use Rattle.job.specs.Jobs.{isJob, jobOf}
+use Rattle.job.specs.Jobs.{isDevice, codesAt, isJob, jobOf}
 use Rattle.bus.specs.Fields.{field, unfield}
 use Rattle.bus.specs.Transfers.{logField, tapeField, wanted, untape, says, busOf, moved, after, answered, outcome}
 use Rattle.bus.specs.Programs.{ran, onTape, bind, proceed, _>>=_}
@@ -74,5 +74,5 @@ pub example :
     tape
     log
     (record { tape = 32; log = 52 })
-unfolding jobInit jobOf isJob deviceFor newFor isSound soundly calibrate onwardBy onward counting setting initBy order._>>=_ setFor planFor protectFor shuntFor stepsFor tripCodeFor obtainableOr withinFor step mvAcross rangeFor codeFor onTape bind _>>=_ proceed readBytes readRaw plainRead plainly wrote askWrite send compared verified askBack writeRaw writeFrame framed field unfield logField tapeField wanted untape says moved after answered outcome put
+unfolding jobInit jobOf isJob isDevice codesAt deviceFor newFor isSound soundly calibrate onwardBy onward counting setting initBy order._>>=_ setFor planFor protectFor shuntFor stepsFor tripCodeFor obtainableOr withinFor step mvAcross rangeFor codeFor onTape bind _>>=_ proceed readBytes readRaw plainRead plainly wrote askWrite send compared verified askBack writeRaw writeFrame framed field unfield logField tapeField wanted untape says moved after answered outcome put
 example = refl

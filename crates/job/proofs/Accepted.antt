@@ -1,5 +1,5 @@
 -- What is accepted is just what begins with a job written out. A job written out is read back, whatever tape follows; and bytes, each below
--- 256, that are accepted are their job written out, and then, from byte 34 on, the tape.
+-- 256, that are accepted are their job written out, and then, from byte 34 on, the tape. So it is of the device alone, up to byte 7.
 -- Assumes nothing.
 use mathlib.Core.Path.{_≡_, refl, sym, ap, subst, _∙_}
 use mathlib.Core.Bool.{Bool, true, false, cond}
@@ -15,11 +15,12 @@ use Rattle.laws.proofs.Tests.{below}
 use Rattle.signed.specs.Numbers.{word}
 use Rattle.refusals.specs.Refusal.{value, refused, no}
 use Rattle.settings.proofs.Values.{refused-not, same-value}
-use Rattle.job.specs.Jobs.{byteAt, numberAt, isJob, deviceOf, configOf, jobOf}
+use Rattle.job.specs.Jobs.{byteAt, numberAt, isDevice, codesAt, isJob, deviceOf, configOf, deviceFor, jobOf}
 use Rattle.job.specs.Encoding.{four, zeroOrOne, deviceValue, configValue, field, fieldsOf}
+use Rattle.job.specs.declared.Device.{Device}
 use Rattle.job.specs.declared.Job.{Job}
 use Rattle.job.proofs.Codes.{scd-coded, ocd-coded, uv-coded, ov-coded}
-use Rattle.job.proofs.Tested.{Tested, tested}
+use Rattle.job.proofs.Tested.{Field, Tested, device-tested, tested}
 
 -- ---- written out, then read
 number-four : (n : ℕ) → word (n / 16777216) (n / 65536 % 256) * 65536 + word (n / 256 % 256) (n % 256) ≡ n
@@ -33,6 +34,12 @@ check-small : (b : Bool) → ltb (zeroOrOne b) 2 ≡ true
 check-small false = refl
 check-small true = refl
 
+pub device-alone : (d : Device) (rest : List ℕ) → deviceFor (field 0x20 (deviceValue d) ++ rest) ≡ value d
+unfolding deviceFor isDevice
+device-alone d rest =
+    let long : 7 ≤ length (field 0x20 (deviceValue d) ++ rest) = omega arith in
+    rw (le-leb _ _ long, check-small (d .check), check-read (d .check))
+
 module _ (j : Job) (tape : List ℕ) where
   abbrev bytes : List ℕ
   bytes = fieldsOf j ++ tape
@@ -42,11 +49,12 @@ module _ (j : Job) (tape : List ℕ) where
   long = omega arith
 
   is-job : isJob bytes ≡ true
-  unfolding isJob fieldsOf four
+  unfolding isJob isDevice codesAt fieldsOf four
   is-job =
       let c = j .config in
       rw (
         le-leb 34 (length bytes) long,
+        le-leb 7 (length bytes) (omega (arith, long)),
         check-small (j .device .check),
         scd-coded .listed (c .«scd_delay»),
         ocd-coded .listed (c .«ocd_delay»),
@@ -84,11 +92,11 @@ module _ (j : Job) (tape : List ℕ) where
 
 -- ---- read, then written out
 -- n bytes from byte i on
-abbrev from : List ℕ → ℕ → ℕ → List ℕ
+abbrev pub from : List ℕ → ℕ → ℕ → List ℕ
 from l i zero = []
 from l i (suc n) = byteAt l i ∷ from l (suc i) n
 
-from-drop : (l : List ℕ) (i n : ℕ) → i + n ≤ length l → drop i l ≡ from l i n ++ drop (i + n) l
+pub from-drop : (l : List ℕ) (i n : ℕ) → i + n ≤ length l → drop i l ≡ from l i n ++ drop (i + n) l
 from-drop l i zero h = simp unary-clauses
 from-drop l i (suc n) h =
     let here : i < length l = omega arith in
@@ -124,13 +132,13 @@ module _ (bytes : List ℕ) (small : (i : ℕ) → byteAt bytes i < 256) where
   low : (i n : ℕ) → word (byteAt bytes i) (byteAt bytes (i + 1)) ≡ n → n < 256 → byteAt bytes (i + 1) ≡ n
   low i n e h = omega (arith, small (i + 1))
 
-  device-written : Tested bytes → field 0x20 (deviceValue (deviceOf bytes)) ≡ from bytes 0 7
-  device-written t =
+  device-written : Field bytes 0 0x20 4 → byteAt bytes 6 < 2 → field 0x20 (deviceValue (deviceOf bytes)) ≡ from bytes 0 7
+  device-written f check =
       rw (
-        check-written (byteAt bytes 6) (t .check),
-        t .device .tagged,
-        high 1 4 (t .device .sized) (omega arith),
-        low 1 4 (t .device .sized) (omega arith),
+        check-written (byteAt bytes 6) check,
+        f .tagged,
+        high 1 4 (f .sized) (omega arith),
+        low 1 4 (f .sized) (omega arith),
       )
 
   config-written : Tested bytes → field 0x21 (configValue (configOf bytes)) ≡ from bytes 7 27
@@ -154,7 +162,7 @@ module _ (bytes : List ℕ) (small : (i : ℕ) → byteAt bytes i < 256) where
   unfolding fieldsOf
   written t =
       from-drop bytes 0 34 (t .codes .0)
-      ∙ ap (λ (d : List ℕ). (d ++ from bytes 7 27) ++ drop 34 bytes) (sym (device-written t))
+      ∙ ap (λ (d : List ℕ). (d ++ from bytes 7 27) ++ drop 34 bytes) (sym (device-written (t .device) (t .check)))
       ∙ ap (λ (c : List ℕ). (field 0x20 (deviceValue (deviceOf bytes)) ++ c) ++ drop 34 bytes) (sym (config-written t))
 
   job-if : (b : Bool) → isJob bytes ≡ b → (j : Job) → cond b (value found) (refused (no 15 [])) ≡ value j → bytes ≡ fieldsOf j ++ drop 34 bytes
@@ -164,3 +172,15 @@ module _ (bytes : List ℕ) (small : (i : ℕ) → byteAt bytes i < 256) where
   pub job-written : (j : Job) → jobOf bytes ≡ value j → bytes ≡ fieldsOf j ++ drop 34 bytes
   unfolding jobOf
   job-written j q = job-if (isJob bytes) refl j q
+
+  device-if : (b : Bool) → isDevice bytes ≡ b → (d : Device) → cond b (value (deviceOf bytes)) (refused (no 15 [])) ≡ value d
+      → bytes ≡ field 0x20 (deviceValue d) ++ drop 7 bytes
+  device-if true e d q =
+      let t = device-tested bytes e in
+      subst (λ (k : Device). bytes ≡ field 0x20 (deviceValue k) ++ drop 7 bytes) (same-value q)
+      (from-drop bytes 0 7 (t .0) ∙ ap (λ (l : List ℕ). l ++ drop 7 bytes) (sym (device-written (t .1) (t .2))))
+  device-if false e d q = refused-not q
+
+  pub device-alone-written : (d : Device) → deviceFor bytes ≡ value d → bytes ≡ field 0x20 (deviceValue d) ++ drop 7 bytes
+  unfolding deviceFor
+  device-alone-written d q = device-if (isDevice bytes) refl d q

@@ -1,9 +1,13 @@
--- Two answers that meet one promise agree: each is told by its job or by its refusal.
+-- Two answers that meet one promise agree: each is told by its device, configuration or job, or by its refusal.
 -- Assumes nothing.
 use mathlib.Core.Path.{_≡_, refl, ap}
 use Rattle.laws.proofs.Inverse.{one-to-one}
 use Rattle.refusals.proofs.Telling.{answerBack, untold-told}
-use Rattle.job.specs.Jobs.{asJob}
+use Rattle.job.specs.Jobs.{asDevice, asConfig, asJob}
+use Rattle.job.specs.declared.DeviceAnswer.{DeviceAnswer}
+use Rattle.job.specs.declared.DeviceAnswer.the-variants as D
+use Rattle.job.specs.declared.ConfigAnswer.{ConfigAnswer}
+use Rattle.job.specs.declared.ConfigAnswer.the-variants as C
 use Rattle.job.specs.declared.JobAnswer.{JobAnswer}
 use Rattle.job.specs.declared.JobAnswer.the-variants as J
 
@@ -13,3 +17,17 @@ job-undone (J.Refused e) = ap J.Refused (untold-told e)
 
 pub job-agree : (a b : JobAnswer) → asJob a ≡ asJob b → a ≡ b
 job-agree = one-to-one asJob (answerBack J.Wanted J.Refused) job-undone
+
+device-undone : (a : DeviceAnswer) → answerBack D.Wanted D.Refused (asDevice a) ≡ a
+device-undone (D.Wanted device) = refl
+device-undone (D.Refused e) = ap D.Refused (untold-told e)
+
+pub device-agree : (a b : DeviceAnswer) → asDevice a ≡ asDevice b → a ≡ b
+device-agree = one-to-one asDevice (answerBack D.Wanted D.Refused) device-undone
+
+config-undone : (a : ConfigAnswer) → answerBack C.Wanted C.Refused (asConfig a) ≡ a
+config-undone (C.Wanted config) = refl
+config-undone (C.Refused e) = ap C.Refused (untold-told e)
+
+pub config-agree : (a b : ConfigAnswer) → asConfig a ≡ asConfig b → a ≡ b
+config-agree = one-to-one asConfig (answerBack C.Wanted C.Refused) config-undone

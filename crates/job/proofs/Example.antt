@@ -10,7 +10,7 @@ use Rattle.protection.specs.declared.delays.OCDDelay.the-variants as O
 use Rattle.protection.specs.declared.delays.UVDelay.the-variants as U
 use Rattle.protection.specs.declared.delays.OVDelay.the-variants as W
 use Rattle.refusals.specs.Refusal.{value, refused, no}
-use Rattle.job.specs.Jobs.{isJob, jobOf}
+use Rattle.job.specs.Jobs.{isDevice, codesAt, isJob, jobOf}
 use Rattle.job.specs.Encoding.{four, fieldsOf}
 use Rattle.job.specs.declared.Job.{Job}
 
@@ -42,7 +42,7 @@ job = record {
 }
 
 pub example-read : jobOf bytes ≡ value job
-unfolding jobOf isJob
+unfolding jobOf isJob isDevice codesAt
 example-read = refl
 
 pub example-written : fieldsOf job ≡ bytes
@@ -54,5 +54,5 @@ abbrev wrong : List (List ℕ)
 wrong = take 33 bytes ∷ set bytes 6 2 ∷ set bytes 9 23 ∷ set bytes 30 4 ∷ []
 
 pub wrong-refused : map jobOf wrong ≡ map (λ (_ : List ℕ). refused (no 15 [])) wrong
-unfolding jobOf isJob
+unfolding jobOf isJob isDevice codesAt
 wrong-refused = refl

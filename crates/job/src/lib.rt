@@ -2,7 +2,7 @@
 ghost use mathlib.Core.Path.{_≡_};
 ghost use Prim.Native.Nat.{_+_, _≤_, _<_};
 ghost use lib.ListN.{length};
-ghost use Rattle.job.specs.Jobs.{numberAt, isField, isJob, Listed, deviceOf, configOf, jobOf, asJob};
+ghost use Rattle.job.specs.Jobs.{numberAt, isField, isDevice, codesAt, isConfig, isJob, ListedAt, deviceOf, configAt, deviceFor, asDevice, configFor, asConfig, jobOf, asJob};
 ghost use Rattle.job.specs.Delays.{scdAt, ocdAt, uvAt, ovAt};
 use protection::delays::OCDDelay;
 use protection::delays::OVDelay;
@@ -26,6 +26,16 @@ pub struct Device {
 pub struct Job {
     pub device: Device,
     pub config: Config,
+}
+
+pub enum DeviceAnswer {
+    Wanted(Device),
+    Refused(Error),
+}
+
+pub enum ConfigAnswer {
+    Wanted(Config),
+    Refused(Error),
 }
 
 pub enum JobAnswer {
@@ -103,23 +113,43 @@ fn is_field(job: &[u8], at: usize, tag: u8, len: u16) -> bool
     (job[at] == tag) & (said == len)
 }
 
+fn is_device(job: &[u8]) -> bool
+    ensures { λ r. ⌜ r ≡ isDevice (now (job .entry)) ⌝ }
+{
+    if job.len() < 7 {
+        return false;
+    }
+    is_field(job, 0, 0x20, 4) & (job[6] < 2)
+}
+
+// The codes of a configuration whose first byte is at `at` are in their lists.
+fn has_codes(job: &[u8], at: usize) -> bool
+    requires { ⌜ at + 24 ≤ length (now job) ⌝ }
+    ensures { λ r. ⌜ r ≡ codesAt (now (job .entry)) at ⌝ }
+{
+    (job[at + 20] < 4) & (job[at + 21] < 8) & (job[at + 22] < 4) & (job[at + 23] < 4)
+}
+
+pub fn is_config(value: &[u8]) -> bool
+    ensures { λ r. ⌜ r ≡ isConfig (now (value .entry)) ⌝ }
+{
+    if value.len() != 24 {
+        return false;
+    }
+    has_codes(value, 0)
+}
+
 fn is_job(job: &[u8]) -> bool
     ensures { λ r. ⌜ r ≡ isJob (now (job .entry)) ⌝ }
 {
     if job.len() < TAPE_AT {
         return false;
     }
-    is_field(job, 0, 0x20, 4)
-        & (job[6] < 2)
-        & is_field(job, 7, 0x21, 24)
-        & (job[30] < 4)
-        & (job[31] < 8)
-        & (job[32] < 4)
-        & (job[33] < 4)
+    is_device(job) & is_field(job, 7, 0x21, 24) & has_codes(job, 10)
 }
 
 fn device_of(job: &[u8]) -> Device
-    requires { ⌜ 34 ≤ length (now job) ⌝ }
+    requires { ⌜ 7 ≤ length (now job) ⌝ }
     ensures { λ r. ⌜ r ≡ deviceOf (now (job .entry)) ⌝ }
 {
     Device {
@@ -130,21 +160,42 @@ fn device_of(job: &[u8]) -> Device
     }
 }
 
-fn config_of(job: &[u8]) -> Config
-    requires { ⌜ Listed (now job) ⌝ }
-    ensures { λ r. ⌜ r ≡ configOf (now (job .entry)) ⌝ }
+// The configuration whose first byte is at `at`.
+fn config_of(job: &[u8], at: usize) -> Config
+    requires { ⌜ ListedAt (now job) at ⌝ }
+    ensures { λ r. ⌜ r ≡ configAt (now (job .entry)) at ⌝ }
 {
     Config {
-        shunt: MicroOhms(be_u32(job, 10)),
-        scd_delay: scd_delay(job[30]),
-        scd_threshold: Amperes(be_u32(job, 14)),
-        ocd_delay: ocd_delay(job[31]),
-        ocd_threshold: Amperes(be_u32(job, 18)),
-        uv_delay: uv_delay(job[32]),
-        uv_threshold: MilliVolts(be_u32(job, 22)),
-        ov_delay: ov_delay(job[33]),
-        ov_threshold: MilliVolts(be_u32(job, 26)),
+        shunt: MicroOhms(be_u32(job, at)),
+        scd_delay: scd_delay(job[at + 20]),
+        scd_threshold: Amperes(be_u32(job, at + 4)),
+        ocd_delay: ocd_delay(job[at + 21]),
+        ocd_threshold: Amperes(be_u32(job, at + 8)),
+        uv_delay: uv_delay(job[at + 22]),
+        uv_threshold: MilliVolts(be_u32(job, at + 12)),
+        ov_delay: ov_delay(job[at + 23]),
+        ov_threshold: MilliVolts(be_u32(job, at + 16)),
     }
+}
+
+// The device that bytes begin with, or 15.
+pub fn parse_device(job: &[u8]) -> DeviceAnswer
+    ensures { λ r. ⌜ asDevice r ≡ deviceFor (now (job .entry)) ⌝ }
+{
+    if !is_device(job) {
+        return DeviceAnswer::Refused(Error::BadTape);
+    }
+    DeviceAnswer::Wanted(device_of(job))
+}
+
+// The configuration that is a field's whole value, or 15.
+pub fn parse_config(value: &[u8]) -> ConfigAnswer
+    ensures { λ r. ⌜ asConfig r ≡ configFor (now (value .entry)) ⌝ }
+{
+    if !is_config(value) {
+        return ConfigAnswer::Refused(Error::BadTape);
+    }
+    ConfigAnswer::Wanted(config_of(value, 0))
 }
 
 // The job that bytes begin with, or 15. The tape starts at TAPE_AT.
@@ -156,6 +207,6 @@ pub fn parse(job: &[u8]) -> JobAnswer
     }
     JobAnswer::Wanted(Job {
         device: device_of(job),
-        config: config_of(job),
+        config: config_of(job, 10),
     })
 }

@@ -107,38 +107,43 @@ pub fn transfers(log: &[u8], from: usize, before: usize) {
     }
 }
 
-// Of an init's number and the 36 bytes with it: what it reports, or what it refuses with.
-pub fn answer(refusal: u8, out: &[u8]) {
-    if refusal == 0 {
-        accepted(out);
-    } else {
-        refused(refusal, out);
+// What an init reports.
+pub fn ready(range: u64, scd: u64, ocd: u64, uv: u64, ov: u64) {
+    words(b"init range");
+    number(range);
+    words(b" scd");
+    number(scd);
+    words(b" ocd");
+    number(ocd);
+    words(b" uv");
+    number(uv);
+    words(b" ov");
+    number(ov);
+    words(b"\n");
+}
+
+// A refusal's number, and as many of the two figures as it names.
+pub fn refused(refusal: u8, figures: u64, first: u64, second: u64) {
+    words(b"refused");
+    number(refusal as u64);
+    if 0 < figures {
+        number(first);
+    }
+    if 1 < figures {
+        number(second);
     }
     words(b"\n");
 }
 
-fn accepted(out: &[u8]) {
-    words(b"init range");
-    number_at(out, 16);
-    words(b" scd");
-    number_at(out, 20);
-    words(b" ocd");
-    number_at(out, 24);
-    words(b" uv");
-    number_at(out, 28);
-    words(b" ov");
-    number_at(out, 32);
-}
-
-fn refused(refusal: u8, out: &[u8]) {
-    words(b"refused");
-    number(refusal as u64);
-    let figures = four(out, 16);
-    if 0 < figures {
-        number_at(out, 20);
-    }
-    if 1 < figures {
-        number_at(out, 24);
+// Of an init's number and the 36 bytes with it: what it reports, or what it refuses with.
+pub fn answer(refusal: u8, out: &[u8]) {
+    let a = four(out, 16);
+    let b = four(out, 20);
+    let c = four(out, 24);
+    if refusal == 0 {
+        ready(a, b, c, four(out, 28), four(out, 32));
+    } else {
+        refused(refusal, a, b, c);
     }
 }
 

@@ -1,7 +1,7 @@
 -- `job::is_job` meets its contract. Assumes nothing.
-use borrow.Author.Needs.{needs}
 use borrow.Author.Tests.{lt-leb, le-leb}
 use Rattle.job.specs.Jobs.{isJob}
+use borrow.Author.Needs.{needs}
 use Rattle.job.proofs.is_job.Statement.{statement}
 use Rattle.job.proofs.is_job.Tie as tie
 
@@ -9,46 +9,25 @@ returns : tie.Need-returns
 unfolding isJob
 returns c = simp (lt-leb _ _ (c .if1 .taken))
 
+is-device-requires : tie.Need-is-device-requires
+is-device-requires c κs = search needs
+
 is-field-requires : tie.Need-is-field-requires
 is-field-requires c κs = search needs
 
-shared-slice-read-result : tie.Need-shared-slice-read-result
-shared-slice-read-result c = search needs
-
-is-field-requires-2 : tie.Need-is-field-requires-2
-is-field-requires-2 c κs = search needs
-
-shared-slice-read-result-2 : tie.Need-shared-slice-read-result-2
-shared-slice-read-result-2 c = search needs
-
-shared-slice-read-result-3 : tie.Need-shared-slice-read-result-3
-shared-slice-read-result-3 c = search needs
-
-shared-slice-read-result-4 : tie.Need-shared-slice-read-result-4
-shared-slice-read-result-4 c = search needs
-
-shared-slice-read-result-5 : tie.Need-shared-slice-read-result-5
-shared-slice-read-result-5 c = search needs
+has-codes-requires : tie.Need-has-codes-requires
+has-codes-requires c κs = search needs
 
 returns-2 : tie.Need-returns-2
 unfolding isJob
 returns-2 c =
     rw (
-      c .before .before .before .before .before .before .is-field .ensures,
-      c .before .before .before .before .is-field2 .ensures,
-      le-leb _ _ (c .before .before .before .before .before .before .before .if1 .left),
+      c .before .before .is-device .ensures,
+      c .before .is-field .ensures,
+      c .has-codes .ensures,
+      le-leb _ _ (c .before .before .before .if1 .left),
     )
 
 pub is-job-spec : {M : Type 1} → statement M
 is-job-spec =
-    tie.close
-    (tie.spec
-    returns
-    is-field-requires
-    shared-slice-read-result
-    is-field-requires-2
-    shared-slice-read-result-2
-    shared-slice-read-result-3
-    shared-slice-read-result-4
-    shared-slice-read-result-5
-    returns-2)
+    tie.close (tie.spec returns is-device-requires is-field-requires has-codes-requires returns-2)

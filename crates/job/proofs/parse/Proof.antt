@@ -1,5 +1,6 @@
 -- `job::parse` meets its contract. Assumes nothing.
 use mathlib.Core.Path.{sym, _∙_}
+use native.Mathlib.Omega.{arith}
 use borrow.Author.Needs.{needs}
 use borrow.Author.Tests.{not-true, not-false}
 use Rattle.job.specs.Jobs.{jobOf}
@@ -15,7 +16,8 @@ unfolding jobOf
 returns c = rw (sym (c .before .is-job .ensures) ∙ not-true _ (c .if1 .taken))
 
 device-of-requires : tie.Need-device-of-requires
-device-of-requires c κs = tested _ (sym (c .before .is-job .ensures) ∙ not-false _ (c .if1 .left)) .codes .0
+device-of-requires c κs =
+    let h = tested _ (sym (c .before .is-job .ensures) ∙ not-false _ (c .if1 .left)) .codes .0 in omega arith
 
 config-of-requires : tie.Need-config-of-requires
 config-of-requires c κs = tested _ (sym (c .before .before .is-job .ensures) ∙ not-false _ (c .before .if1 .left)) .codes

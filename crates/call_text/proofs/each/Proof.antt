@@ -1,0 +1,105 @@
+-- `call_text::each` ends: each field is longer than nothing, and lies within the input. Assumes nothing.
+use mathlib.Core.Path.{_≡_, sym, ap, _∙_}
+use Prim.Native.Nat.{ℕ, _-_}
+use native.Mathlib.Omega.{arith}
+use denote.Ref.{now}
+use lib.ListN.{length, drop}
+use borrow.Author.Needs.{needs}
+use Rattle.refusals.specs.Refusal.{value}
+use Rattle.calls.specs.Heads.{fieldAt, asField}
+use Rattle.calls.proofs.Steps.{starts, inside}
+use Rattle.call_text.proofs.each.Statement.{statement}
+use Rattle.call_text.proofs.each.Tie as tie
+
+abbrev Inv-loop : tie.InvT-loop
+Inv-loop input tape log₀ state₀ place₀ log state place = length log ≡ length log₀
+
+abbrev μ-loop : tie.MeasureT-loop
+μ-loop input tape log₀ state₀ place₀ log state place = length input - place
+
+abbrev place : tie.After-known-told Inv-loop μ-loop → ℕ
+place c = c .before .before .before .before .before .loop .place
+
+field-is : (c : tie.After-known-told Inv-loop μ-loop) → fieldAt (place c) (drop (place c) (now (c .before .before .before .before .before .before .before .before .before .args .input))) ≡ value (c .before .found .given .0 .0)
+field-is c = sym (c .before .before .before .field-at .ensures) ∙ ap asField (c .before .found .given .1)
+
+loop-holds : tie.Need-loop-holds Inv-loop μ-loop
+loop-holds c = search needs
+
+field-at-requires : tie.Need-field-at-requires Inv-loop μ-loop
+field-at-requires c κs = search needs
+
+enum-known-found : tie.Need-enum-known-found Inv-loop μ-loop
+enum-known-found c = search needs
+
+enum-told : tie.Need-enum-told Inv-loop μ-loop
+enum-told c = search needs
+
+same-length : tie.Need-same-length Inv-loop μ-loop
+same-length c = search needs
+
+returns : tie.Need-returns Inv-loop μ-loop
+returns c = search needs
+
+same-length-2 : tie.Need-same-length-2 Inv-loop μ-loop
+same-length-2 c = search needs
+
+returns-2 : tie.Need-returns-2 Inv-loop μ-loop
+returns-2 c = search needs
+
+add-end : tie.Need-add-end Inv-loop μ-loop
+add-end c =
+    let h = inside _ _ _ (field-is (c .before)) in
+    search needs
+
+sub-call : tie.Need-sub-call Inv-loop μ-loop
+sub-call c = search needs
+
+part-call-start : tie.Need-part-call-start Inv-loop μ-loop
+part-call-start c = search needs
+
+part-call-end : tie.Need-part-call-end Inv-loop μ-loop
+part-call-end c =
+    let h = inside _ _ _ (field-is (c .before)) in
+    search needs
+
+call-requires : tie.Need-call-requires Inv-loop μ-loop
+call-requires c κs = search needs
+
+loop-less : tie.Need-loop-less Inv-loop μ-loop
+loop-less c =
+    let s = starts _ _ _ (field-is (c .before .before .before .before .before .before)) in
+    omega arith
+
+loop-again : tie.Need-loop-again Inv-loop μ-loop
+loop-again c = search needs
+
+same-length-3 : tie.Need-same-length-3 Inv-loop μ-loop
+same-length-3 c = search needs
+
+returns-3 : tie.Need-returns-3 Inv-loop μ-loop
+returns-3 c = search needs
+
+pub each-spec : {M : Type 1} → statement M
+each-spec =
+    tie.close
+    (tie.spec
+    Inv-loop
+    μ-loop
+    loop-holds
+    field-at-requires
+    enum-known-found
+    enum-told
+    same-length
+    returns
+    same-length-2
+    returns-2
+    add-end
+    sub-call
+    part-call-start
+    part-call-end
+    call-requires
+    loop-less
+    loop-again
+    same-length-3
+    returns-3)

@@ -1,0 +1,103 @@
+// A run of calls with its tape: each call's transfers and its answer printed, and the record last of all.
+use crate::state::State;
+use bq769x0::BQ769x0;
+use bq769x0::record::NewAnswer;
+use bus::Cursor;
+use calls::FieldAnswer;
+use calls::HeadAnswer;
+use calls::Heading;
+
+mod change;
+mod lines;
+mod measure;
+mod registers;
+mod state;
+
+// 15, then 9, 10, 11, then the calls.
+pub fn print(input: &[u8]) {
+    let head = calls::head(input);
+    match head {
+        HeadAnswer::Wanted(heading) => make(input, heading),
+        HeadAnswer::Refused(e) => lines::refused(e),
+    }
+}
+
+fn make(input: &[u8], heading: Heading) {
+    let asked = heading.device;
+    let tape_at = heading.tape_at;
+    let made = BQ769x0::new(asked.x, asked.address, asked.cells, asked.check);
+    let answer = made.answer;
+    let device = made.device;
+    match answer {
+        NewAnswer::Made => run(input, tape_at, device),
+        NewAnswer::Refused(e) => lines::refused(e),
+    }
+}
+
+fn run(input: &[u8], tape_at: usize, device: BQ769x0) {
+    if input.len() < tape_at {
+        return;
+    }
+    let mut log = [0u8; 65536];
+    let state = each(input, &input[tape_at..], device, &mut log);
+    state.print();
+}
+
+// The calls in turn; one record, one tape, one log.
+fn each(input: &[u8], tape: &[u8], device: BQ769x0, log: &mut [u8]) -> State {
+    let at = Cursor { tape: 0, log: 0 };
+    let mut state = State { device, at };
+    let mut place = calls::CALLS_AT;
+    while place < input.len() {
+        let found = calls::field_at(input, place);
+        let FieldAnswer::Found(field) = found else {
+            return state;
+        };
+        let tag = field.tag;
+        let start = field.start;
+        let len = field.len;
+        if tag == calls::END {
+            return state;
+        }
+        let end = start + len;
+        state = call(tag, &input[start..end], state, tape, log);
+        place = end;
+    }
+    state
+}
+
+// Only setting up and reading the cells change the record.
+fn call(tag: u8, value: &[u8], state: State, tape: &[u8], log: &mut [u8]) -> State {
+    let device = state.device;
+    let at = state.at;
+    match tag {
+        0x21 => change::init(value, device, tape, log, at),
+        0x22 => change::cells(value, device, tape, log, at),
+        _ => {
+            let at = other(tag, value, device, tape, log, at);
+            State { device, at }
+        }
+    }
+}
+
+fn other(
+    tag: u8,
+    value: &[u8],
+    device: BQ769x0,
+    tape: &[u8],
+    log: &mut [u8],
+    at: Cursor,
+) -> Cursor {
+    match tag {
+        0x23 => measure::current(device, tape, log, at),
+        0x24 => measure::voltage(device, tape, log, at),
+        0x25 => measure::temperature(device, tape, log, at),
+        0x27 => registers::balancing_state(device, tape, log, at),
+        0x28 => registers::sys_stat(device, tape, log, at),
+        0x2C => registers::is_charge_enabled(device, tape, log, at),
+        0x2D => registers::ship_enter(device, tape, log, at),
+        0x30 => registers::temperature_source(device, tape, log, at),
+        0x32 => registers::read_raw(value, device, tape, log, at),
+        _ => registers::command(tag, value, device, tape, log, at),
+    }
+}

@@ -1,0 +1,65 @@
+// The lines of one call: its transfers, and what it answered.
+use bus::Cursor;
+use bus::raw::Raw;
+use bus::raw::RawAnswer;
+use refusals::Error;
+
+// The fields that a call added to the log.
+pub(crate) fn transfers(log: &[u8], at: Cursor, next: Cursor) {
+    text::transfers(log, at.log, next.log);
+}
+
+pub(crate) fn refused(e: Error) {
+    let told = e.told();
+    text::refused(told.0, told.1 as u64, told.2 as u64, told.3 as u64);
+}
+
+pub(crate) fn number(name: &[u8], n: u64) {
+    text::words(name);
+    text::number(n);
+    text::words(b"\n");
+}
+
+pub(crate) fn signed_number(name: &[u8], n: i32) {
+    text::words(name);
+    text::signed_number(n);
+    text::words(b"\n");
+}
+
+// A call that answers no more than that it is done.
+pub(crate) fn raw(made: Raw, log: &[u8], at: Cursor) -> Cursor {
+    let answer = made.answer;
+    let next = made.at;
+    transfers(log, at, next);
+    match answer {
+        RawAnswer::Done => text::words(b"done\n"),
+        RawAnswer::Refused(e) => refused(e),
+    }
+    next
+}
+
+fn wide(n: u32) -> u64 {
+    n as u64
+}
+
+pub(crate) fn cells(list: &[u32], count: usize) {
+    text::words(b"cells");
+    let mut i = 0;
+    while i < list.len() {
+        if i < count {
+            text::number(wide(list[i]));
+        }
+        i += 1;
+    }
+    text::words(b"\n");
+}
+
+pub(crate) fn data(bytes: &[u8]) {
+    text::words(b"data");
+    let mut i = 0;
+    while i < bytes.len() {
+        text::hex(bytes[i]);
+        i += 1;
+    }
+    text::words(b"\n");
+}

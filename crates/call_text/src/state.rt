@@ -1,0 +1,49 @@
+// What the calls share, and its line at the end.
+use bq769x0::BQ769x0;
+use bus::Cursor;
+use units::MilliVolts;
+
+pub(crate) struct State {
+    pub device: BQ769x0,
+    pub at: Cursor,
+}
+
+fn bit(b: bool) -> u64 {
+    if b { 1 } else { 0 }
+}
+
+fn wide(z: i8) -> i32 {
+    z as i32
+}
+
+fn cells(cells: [MilliVolts; 15]) {
+    let mut i = 0;
+    while i < 15 {
+        let cell = cells[i];
+        text::number(cell.0 as u64);
+        i += 1;
+    }
+}
+
+impl State {
+    pub(crate) fn print(self) {
+        let device = self.device;
+        let at = self.at;
+        text::words(b"record");
+        text::number(device.x as u64);
+        text::number(device.cell_count as u64);
+        text::number(device.dev_address as u64);
+        text::number(bit(device.check));
+        text::number(device.adc_gain as u64);
+        text::signed_number(wide(device.adc_offset));
+        text::number(bit(device.init_complete));
+        text::number(device.shunt.0 as u64);
+        let held = device.cells;
+        cells(held);
+        text::words(b" tape");
+        text::number(at.tape as u64);
+        text::words(b" log");
+        text::number(at.log as u64);
+        text::words(b"\n");
+    }
+}

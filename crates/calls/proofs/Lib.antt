@@ -1,0 +1,4 @@
+pub mod Accepted
+pub mod Agree
+pub mod Rows
+pub mod Steps

@@ -1,0 +1,115 @@
+-- `calls::end_of_calls` meets its contract. Assumes nothing.
+use mathlib.Core.Path.{_≡_, refl, sym, ap, _∙_}
+use Prim.Native.Nat.{ℕ, _+_, _-_, _≤_}
+use native.Mathlib.Omega.{arith}
+use denote.Ref.{now}
+use lib.ListN.{length, drop}
+use Rattle.calls.specs.Heads.{fieldAt, asField, endFrom}
+use Rattle.calls.proofs.Steps.{unfound, none, past-the-end, starts, inside, found-end, found-call, found-other}
+use Rattle.refusals.specs.Refusal.{value}
+use borrow.Author.Needs.{needs}
+use borrow.Author.Tests.{not-true, not-false}
+use Rattle.calls.proofs.end_of_calls.Statement.{statement}
+use Rattle.calls.proofs.end_of_calls.Tie as tie
+
+abbrev Inv-loop : tie.InvT-loop
+Inv-loop input at₀ at =
+    (fields : ℕ) × (length input ≤ at + fields) × (endFrom (length input) 7 (drop 7 input) ≡ endFrom fields at (drop at input))
+
+abbrev μ-loop : tie.MeasureT-loop
+μ-loop input at₀ at = length input - at
+
+abbrev place : tie.After-known-told Inv-loop μ-loop → ℕ
+place c = c .before .before .before .before .before .loop .at
+
+field-is : (c : tie.After-known-told Inv-loop μ-loop) → fieldAt (place c) (drop (place c) (now (c .before .before .before .before .before .before .before .args .input))) ≡ value (c .before .found .given .0 .0)
+field-is c = sym (c .before .before .before .field-at .ensures) ∙ ap asField (c .before .found .given .1)
+
+loop-holds : tie.Need-loop-holds Inv-loop μ-loop
+loop-holds c = (length (now (c .before .args .input)), omega arith, refl)
+
+field-at-requires : tie.Need-field-at-requires Inv-loop μ-loop
+field-at-requires c κs = search needs
+
+enum-known-found : tie.Need-enum-known-found Inv-loop μ-loop
+enum-known-found c = search needs
+
+enum-told : tie.Need-enum-told Inv-loop μ-loop
+enum-told c = search needs
+
+returns : tie.Need-returns Inv-loop μ-loop
+returns c =
+    let at = c .before .before .before .before .loop in
+    sym (at .inv .2 ∙ none (at .at) _ (at .inv .0) (unfound _ _ _ (sym (c .before .before .field-at .ensures) ∙ ap asField (c .enum-told .given .1))))
+
+returns-2 : tie.Need-returns-2 Inv-loop μ-loop
+returns-2 c =
+    let at = c .before .before .before .before .before .before .loop in
+    sym (at .inv .2 ∙ found-end _ _ _ (field-is (c .before)) (at .inv .0) (omega arith) (c .if1 .taken))
+
+add-end : tie.Need-add-end Inv-loop μ-loop
+add-end c =
+    let h = inside _ _ _ (field-is (c .before)) in
+    search needs
+
+sub-is-lawful : tie.Need-sub-is-lawful Inv-loop μ-loop
+sub-is-lawful c = search needs
+
+part-is-lawful-start : tie.Need-part-is-lawful-start Inv-loop μ-loop
+part-is-lawful-start c = search needs
+
+part-is-lawful-end : tie.Need-part-is-lawful-end Inv-loop μ-loop
+part-is-lawful-end c =
+    let h = inside _ _ _ (field-is (c .before)) in
+    search needs
+
+is-lawful-requires : tie.Need-is-lawful-requires Inv-loop μ-loop
+is-lawful-requires c κs = search needs
+
+returns-3 : tie.Need-returns-3 Inv-loop μ-loop
+returns-3 c =
+    let k = c .before .before .before .before in
+    let at = c .before .before .before .before .before .before .before .before .before .loop in
+    sym (at .inv .2 ∙ found-other _ _ _ (field-is k) (at .inv .0) (omega arith) (c .before .before .before .if1 .left) (sym (c .before .is-lawful .ensures) ∙ not-true _ (c .if2 .taken)))
+
+loop-less : tie.Need-loop-less Inv-loop μ-loop
+loop-less c =
+    let s = starts _ _ _ (field-is (c .before .before .before .before)) in
+    omega arith
+
+loop-again : tie.Need-loop-again Inv-loop μ-loop
+loop-again c =
+    let k = c .before .before .before .before in
+    let at = c .before .before .before .before .before .before .before .before .before .loop in
+    let s = starts _ _ _ (field-is k) in (
+      at .inv .0 - 1,
+      omega arith,
+      at .inv .2 ∙ found-call _ _ _ (field-is k) (at .inv .0) (omega arith) (c .before .before .before .if1 .left) (sym (c .before .is-lawful .ensures) ∙ not-false _ (c .if2 .left)),
+    )
+
+returns-4 : tie.Need-returns-4 Inv-loop μ-loop
+returns-4 c =
+    let at = c .before .loop in
+    sym (at .inv .2 ∙ past-the-end (at .inv .0) (at .at) (now (c .before .before .before .args .input)) (omega arith))
+
+pub end-of-calls-spec : {M : Type 1} → statement M
+end-of-calls-spec =
+    tie.close
+    (tie.spec
+    Inv-loop
+    μ-loop
+    loop-holds
+    field-at-requires
+    enum-known-found
+    enum-told
+    returns
+    returns-2
+    add-end
+    sub-is-lawful
+    part-is-lawful-start
+    part-is-lawful-end
+    is-lawful-requires
+    returns-3
+    loop-less
+    loop-again
+    returns-4)

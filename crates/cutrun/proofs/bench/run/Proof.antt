@@ -1,0 +1,51 @@
+-- `cutrun::bench::run` ends. Assumes nothing.
+use Prim.Native.Nat.{_-_}
+use native.Mathlib.Omega.{arith}
+use borrow.Author.Needs.{needs}
+use Rattle.cutrun.proofs.bench.run.Statement.{statement}
+use Rattle.cutrun.proofs.bench.run.Tie as tie
+
+abbrev Inv-loop : tie.InvT-loop
+Inv-loop cut device config bench₀ k₀ bench k = Unit {0}
+
+abbrev μ-loop : tie.MeasureT-loop
+μ-loop cut device config bench₀ k₀ bench k = 8 - k
+
+new-requires : tie.Need-new-requires Inv-loop μ-loop
+new-requires c κs = search needs
+
+loop-holds : tie.Need-loop-holds Inv-loop μ-loop
+loop-holds c = search needs
+
+step-requires : tie.Need-step-requires Inv-loop μ-loop
+step-requires c κs = search needs
+
+add-k : tie.Need-add-k Inv-loop μ-loop
+add-k c = search needs
+
+loop-less : tie.Need-loop-less Inv-loop μ-loop
+loop-less c = search needs
+
+loop-again : tie.Need-loop-again Inv-loop μ-loop
+loop-again c = search needs
+
+set-up-requires : tie.Need-set-up-requires Inv-loop μ-loop
+set-up-requires c κs = search needs
+
+returns : tie.Need-returns Inv-loop μ-loop
+returns c = search needs
+
+pub run-spec : {M : Type 1} → statement M
+run-spec =
+    tie.close
+    (tie.spec
+    Inv-loop
+    μ-loop
+    new-requires
+    loop-holds
+    step-requires
+    add-k
+    loop-less
+    loop-again
+    set-up-requires
+    returns)

@@ -1,0 +1,94 @@
+// A line for each cut of an init: its answer, registers 05 to 0B and the record's mark and shunt then, and whether a second init on a whole bus ends
+// as one that was never cut.
+use crate::bench;
+use crate::bench::Cut;
+use crate::bench::Outcome;
+use crate::bench::Start;
+use crate::compare;
+use bq769x0::BQ769x0;
+use chip::Chip;
+
+fn registers(chip: Chip) {
+    text::words(b", 05 to 0B");
+    for r in 0x05..0x0C {
+        text::hex(chip.regs[r]);
+    }
+}
+
+fn record(device: BQ769x0) {
+    text::words(b", mark");
+    text::number(device.init_complete as u64);
+    text::words(b" shunt");
+    text::number(device.shunt.0 as u64);
+}
+
+fn left(run: Outcome) {
+    let init = run.init;
+    let answer = init.answer;
+    let device = init.device;
+    let chip = run.bench.chip;
+    text::words(b": answer");
+    text::number(compare::told(answer).0 as u64);
+    registers(chip);
+    record(device);
+}
+
+fn cut_at(name: &[u8], cut: Cut) {
+    text::words(name);
+    text::words(b", transfer");
+    text::number(cut.transfer as u64);
+    text::words(b" cut after");
+    text::number(cut.bytes as u64);
+}
+
+fn second(same: bool) {
+    if same {
+        text::words(b", second init same\n");
+    } else {
+        text::words(b", second init DIFFERS\n");
+    }
+}
+
+fn line(name: &[u8], start: Start, whole: Outcome, cut: Cut) {
+    let first = bench::run(start, cut);
+    cut_at(name, cut);
+    left(first);
+    let again = bench::run(after(first, start), Cut::none());
+    second(compare::same(again, whole));
+}
+
+fn after(run: Outcome, start: Start) -> Start {
+    let chip = run.bench.chip;
+    let device = run.init.device;
+    let config = start.config;
+    Start {
+        chip,
+        device,
+        config,
+    }
+}
+
+fn each_byte(name: &[u8], start: Start, whole: Outcome, transfer: usize, size: usize) {
+    for bytes in 0..=size {
+        line(name, start, whole, Cut { transfer, bytes });
+    }
+}
+
+fn each_transfer(name: &[u8], start: Start, whole: Outcome) {
+    let made = whole.bench.made;
+    let sizes = whole.bench.sizes;
+    for k in 0..bench::MOST {
+        if k < made {
+            each_byte(name, start, whole, k, sizes[k]);
+        }
+    }
+}
+
+pub fn all(name: &[u8], start: Start) {
+    let whole = bench::run(start, Cut::none());
+    text::words(name);
+    text::words(b", whole");
+    left(whole);
+    text::words(b"\n");
+    each_transfer(name, start, whole);
+}

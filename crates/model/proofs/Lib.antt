@@ -1,0 +1,3 @@
+pub mod OnEveryChip
+pub mod Source
+pub mod StatusReset

@@ -1,0 +1,119 @@
+-- The registers that a cut `init` leaves, and what a further write of the six bytes or of 05 makes of them.
+-- Assumes nothing.
+use mathlib.Core.Path.{_≡_, refl, sym, ap, _∙_}
+use mathlib.Core.Bool.{Bool, true, false}
+use mathlib.Core.List.{List, [], _∷_, _++_}
+use Prim.Native.Nat.{ℕ, _+_, _-_, _/_, _%_, _≤_, _<_, max}
+use native.Mathlib.Omega.{arith}
+use lib.Arith.{bin-ind}
+use lib.ListN.{length, take, drop, getD, set, length-take, length-set, length-append, take-append-drop}
+use lib.Seq.{length-take-le, take-add, take-set-lt, drop-set-lt, set-append-left, getD-set-same, getD-set-other, set-set}
+use lib.Bits.{bitOr, or-step, or-self}
+use lib.Dec.{leb}
+use borrow.Author.Tests.{leb-true, leb-false}
+use Rattle.frames.specs.Put.{put}
+use Rattle.frames.proofs.Put.{put-none, length-put, take-before, take-put, put-put, put-over, put-more}
+use Rattle.chip.proofs.FirstPart.{old-above}
+use Rattle.recovery.specs.Recovery.{firstNew, bit6, counted, regsLeft}
+
+-- ---- bits set twice
+or-again : (b a : ℕ) → bitOr (bitOr a b) b ≡ bitOr a b
+or-again b a = bin-ind (λ (n : ℕ). (b : ℕ) → bitOr (bitOr n b) b ≡ bitOr n b) or-self (λ n ih b. step n b (ih (b / 2))) a b
+  where
+    step : (n b : ℕ) → bitOr (bitOr (n / 2) (b / 2)) (b / 2) ≡ bitOr (n / 2) (b / 2) → bitOr (bitOr n b) b ≡ bitOr n b
+    step n b ih =
+        let high : bitOr n b / 2 ≡ bitOr (n / 2) (b / 2) = omega (arith, or-step n b) in
+        let low : bitOr n b % 2 ≡ max (n % 2) (b % 2) = omega (arith, or-step n b) in
+        omega (arith, or-step (bitOr n b) b, or-step n b, ap (λ (k : ℕ). bitOr k (b / 2)) high ∙ ih, low)
+
+-- ---- put twice
+
+-- what stands there already changes nothing
+put-held : (l v : List ℕ) (at : ℕ) → take (at + length v) l ≡ take at l ++ v → put l at v ≡ l
+unfolding put
+put-held l v at e = ap (λ (front : List ℕ). front ++ drop (at + length v) l) (sym e) ∙ take-append-drop (at + length v) l
+
+put-again : (l v w : List ℕ) (at : ℕ) → at + length (v ++ w) ≤ length l → put (put l at (v ++ w)) at v ≡ put l at (v ++ w)
+put-again l v w at room =
+    let all : at + (length v + length w) ≤ length l = rw length-append at room in
+    let first : at + length v ≤ length l = omega arith in
+    put-held (put l at (v ++ w)) v at
+    (ap (take (at + length v)) (sym (put-put l at v first w))
+    ∙ take-before (put l at v) (at + length v) w (rw (length-put l at v first) (omega arith))
+    ∙ take-put l at v first
+    ∙ ap (λ (front : List ℕ). front ++ v) (sym (take-before l at (v ++ w) room)))
+
+-- a first part over a first part is the longer one
+put-parts : (l v : List ℕ) (at m n : ℕ) → m ≤ length v → n ≤ length v → at + length v ≤ length l
+    → put (put l at (take m v)) at (take n v) ≡ put l at (take (max m n) v)
+put-parts l v at m n hm hn room = by (leb m n) refl
+  where
+    by : (t : Bool) → leb m n ≡ t → put (put l at (take m v)) at (take n v) ≡ put l at (take (max m n) v)
+    by true e =
+        let less = leb-true m n e in
+        let most : max m n ≡ n = omega arith in
+        let lm = length-take-le m v hm in
+        let ln = length-take-le n v hn in
+        put-over l at (take m v) (omega arith) (take n v) (omega arith) ∙ ap (λ (k : ℕ). put l at (take k v)) (sym most)
+    by false e =
+        let less = leb-false m n e in
+        let most : max m n ≡ m = omega arith in
+        let sum : m ≡ n + (m - n) = omega arith in
+        let split : take m v ≡ take n v ++ take (m - n) (drop n v) = ap (λ (k : ℕ). take k v) sum ∙ take-add n (m - n) v in
+        let lm = length-take-le m v hm in
+        let size : length (take n v ++ take (m - n) (drop n v)) ≡ m = ap length (sym split) ∙ lm in
+        ap (λ (u : List ℕ). put (put l at u) at (take n v)) split
+        ∙ put-again l (take n v) (take (m - n) (drop n v)) at (omega arith)
+        ∙ ap (put l at) (sym split)
+        ∙ ap (λ (k : ℕ). put l at (take k v)) (sym most)
+
+pub put-one : (l : List ℕ) (at x : ℕ) → at < length l → put l at (x ∷ []) ≡ set l at x
+put-one l at x h = put-more l at x [] h ∙ put-none (set l at x) _
+
+put-set : (l v : List ℕ) (at i x : ℕ) → i < at → at + length v ≤ length l → put (set l i x) at v ≡ set (put l at v) i x
+unfolding put
+put-set l v at i x h room =
+    let size = length-take-le at l (omega arith) in
+    rw (take-set-lt at l i x h, drop-set-lt (at + length v) l i x (omega arith))
+    (sym (set-append-left (take at l ++ v) (drop (at + length v) l) i x (simp length-append (omega arith))
+    ∙ ap (λ (u : List ℕ). u ++ drop (at + length v) l) (set-append-left (take at l) v i x (omega arith))))
+
+counted-again : (l : List ℕ) → 5 < length l → counted (counted l) ≡ counted l
+counted-again l h =
+    let byte = bitOr (getD l 5 0) bit6 in
+    rw (getD-set-same l 5 byte 0 h, or-again bit6 (getD l 5 0), set-set l 5 byte byte)
+
+-- ---- the registers left
+module _ (six regs : List ℕ) (size : length regs ≡ 256) (some : length six ≤ 6) where
+  part : (n : ℕ) → 6 + length (take n six) ≤ length regs
+  part n = omega (arith, length-take n six)
+
+  length-new : (n : ℕ) → length (firstNew n six regs) ≡ 256
+  length-new n = length-put regs 6 (take n six) (part n) ∙ size
+
+  pub length-left : (on : Bool) (n : ℕ) → length (regsLeft on n six regs) ≡ 256
+  length-left true n = length-set (firstNew n six regs) 5 _ ∙ length-new n
+  length-left false n = length-new n
+
+  -- above 0B all is as it was
+  new-above : (n i : ℕ) → 12 ≤ i → getD (firstNew n six regs) i 0 ≡ getD regs i 0
+  new-above n i h = old-above regs 6 (take n six) (part n) i (omega (arith, length-take n six))
+
+  pub left-above : (on : Bool) (n i : ℕ) → 12 ≤ i → getD (regsLeft on n six regs) i 0 ≡ getD regs i 0
+  left-above true n i h = getD-set-other (firstNew n six regs) 5 i _ 0 (λ e. omega arith) ∙ new-above n i h
+  left-above false n i h = new-above n i h
+
+  -- a first part of the six over what is left
+  pub left-more : (on : Bool) (n k : ℕ) → (on ≡ true → n ≡ 6) → n ≤ length six → k ≤ length six
+      → put (regsLeft on n six regs) 6 (take k six) ≡ regsLeft on (max n k) six regs
+  left-more false n k last few most = put-parts regs six 6 n k few most (omega arith)
+  left-more true n k last few most =
+      let all : max n k ≡ n = omega (arith, last refl) in
+      let same = put-parts regs six 6 n k few most (omega arith) ∙ ap (λ (j : ℕ). firstNew j six regs) all in
+      put-set (firstNew n six regs) (take k six) 6 5 _ (omega arith) (omega (arith, length-new n, length-take k six))
+      ∙ ap (λ (u : List ℕ). set u 5 (bitOr (getD (firstNew n six regs) 5 0) bit6)) same
+      ∙ ap (λ (j : ℕ). counted (firstNew j six regs)) (sym all)
+
+  pub left-counted : (on : Bool) (n : ℕ) → counted (regsLeft on n six regs) ≡ regsLeft true n six regs
+  left-counted false n = refl
+  left-counted true n = counted-again (firstNew n six regs) (omega (arith, length-new n))

@@ -1,0 +1,143 @@
+-- What a cut `init` leaves: the setup and the calibration as they were, and a further first part of the six bytes is one of them.
+-- Assumes nothing.
+use mathlib.Core.Path.{_≡_, refl, sym, ap, _∙_}
+use mathlib.Core.Bool.{true, false, false≢true}
+use mathlib.Core.List.{List}
+use Prim.Native.Nat.{ℕ, _≤_, max}
+use native.Mathlib.Omega.{arith}
+use lib.ListN.{length, take, getD}
+use lib.IntN.{ℤ}
+use Rattle.refusals.specs.Refusal.{Refusal, Answer, value, refused}
+use Rattle.adc.specs.Registers.{calibration}
+use Rattle.adc.specs.declared.transfer.AdcTransferFunction.{AdcTransferFunction}
+use Rattle.frames.specs.Put.{put}
+use Rattle.frames.proofs.Put.{put-none}
+use Rattle.settings.specs.Order.{_>>=_}
+use Rattle.settings.specs.Steps.{InMv}
+use Rattle.settings.specs.Plan.{Planned, planFor}
+use Rattle.settings.specs.declared.Config.{Config}
+use Rattle.settings.proofs.Accepted.{first, accepted}
+use Rattle.bus.specs.declared.raw.Setup.{Setup}
+use Rattle.bq769x0.specs.Record.{accepts, setupOf, withCalibration, withShunt}
+use Rattle.bq769x0.specs.declared.BQ769x0.{BQ769x0}
+use Rattle.chip.specs.Chip.{withRegs}
+use Rattle.chip.specs.OnChip.{Matches}
+use Rattle.chip.specs.declared.Chip.{Chip}
+use Rattle.recovery.specs.Recovery.{calibrationOf, planOn, bytesOf, six, chipLeft, Recorded, as-it-was, calibrated, marked, Leaves}
+use Rattle.recovery.proofs.Forms.{length-left, left-above, left-more}
+
+pub plan-six : (gain : ℕ) (offset : ℤ) (config : Config) (scd ocd : ℕ) (plan : Planned) → planFor gain offset config scd ocd ≡ value plan
+    → length (plan .regs) ≡ 6
+plan-six gain offset config scd ocd plan e = ap (λ (p : Planned). length (p .regs)) (sym (accepted gain offset config scd ocd e .1 .1))
+
+module _ (choose : Config → Answer InMv) (config : Config) (c : Chip) where
+  -- the plan, once the steps are chosen
+  pub planned : (steps : InMv) → choose config ≡ value steps → (y : Answer Planned)
+      → planFor (calibrationOf c .gain) (calibrationOf c .offset) config (steps .scd) (steps .ocd) ≡ y → planOn choose config c ≡ y
+  unfolding planOn _>>=_
+  planned steps e y q = rw e q
+
+  pub unplanned : (r : Refusal) → choose config ≡ refused r → planOn choose config c ≡ refused r
+  unfolding planOn _>>=_
+  unplanned r e = rw e
+
+  -- six bytes, or none
+  pub six-all : (plan : Planned) → planOn choose config c ≡ value plan → length (plan .regs) ≡ 6
+  unfolding planOn
+  six-all plan e =
+      let steps = first (choose config) _ e in
+      plan-six _ _ config _ _ plan (steps .1 .1)
+
+  pub six-few : length (six choose config c) ≤ 6
+  six-few = by (planOn choose config c) refl
+    where
+      by : (y : Answer Planned) → planOn choose config c ≡ y → length (bytesOf y) ≤ 6
+      by (value plan) e = omega (arith, six-all plan e)
+      by (refused r) e = omega arith
+
+module _ {choose : Config → Answer InMv} {config : Config} {d : BQ769x0} {c : Chip} where
+  -- nothing yet
+  pub at-first : Leaves choose config d c d c
+  at-first = record {
+    new = 0;
+    on = false;
+    few = omega arith;
+    last = λ e. absurd (false≢true e);
+    chip = ap (withRegs c) (sym (put-none (c .regs) 6));
+    recorded = as-it-was;
+  }
+
+  -- ---- the record
+  pub same-setup : {n : ℕ} {d′ : BQ769x0} → Recorded choose config d c n d′ → setupOf d′ ≡ setupOf d
+  same-setup as-it-was = refl
+  same-setup (calibrated e) = refl
+  same-setup (marked q) = refl
+
+  recalibrates : {n : ℕ} {d′ : BQ769x0} → accepts (choose config) ≡ true → Recorded choose config d c n d′
+      → Recorded choose config d c n (withCalibration d′ (calibrationOf c))
+  recalibrates e as-it-was = calibrated e
+  recalibrates e (calibrated q) = calibrated q
+  recalibrates e (marked q) = marked q
+
+  pub marks : {n : ℕ} {d′ : BQ769x0} → Recorded choose config d c n d′
+      → withShunt (withCalibration d′ (calibrationOf c)) (config .shunt) ≡ withShunt (withCalibration d (calibrationOf c)) (config .shunt)
+  marks as-it-was = refl
+  marks (calibrated q) = refl
+  marks (marked q) = refl
+
+  more-recorded : {n : ℕ} {d′ : BQ769x0} (k : ℕ) → k ≤ 6 → Recorded choose config d c n d′ → Recorded choose config d c (max n k) d′
+  more-recorded {n} k h as-it-was = as-it-was
+  more-recorded {n} k h (calibrated q) = calibrated q
+  more-recorded {n} k h (marked q) = marked {n = max n k} (omega arith)
+
+  pub recalibrated : {d′ : BQ769x0} {c′ : Chip} → accepts (choose config) ≡ true → Leaves choose config d c d′ c′
+      → Leaves choose config d c (withCalibration d′ (calibrationOf c)) c′
+  recalibrated e l = record { new = l .new; on = l .on; few = l .few; last = l .last; chip = l .chip; recorded = recalibrates e (l .recorded) }
+
+  -- ---- the chip
+  module _ (m : Matches (setupOf d) c) {d′ : BQ769x0} {c′ : Chip} (l : Leaves choose config d c d′ c′) where
+    abbrev six′ : List ℕ
+    six′ = six choose config c
+
+    pub matches-left : Matches (setupOf d′) c′
+    matches-left =
+        let same = same-setup (l .recorded) in
+        record {
+          address = ap (λ (s : Setup). s .address) same ∙ m .address ∙ ap (λ (x : Chip). x .address) (sym (l .chip));
+          check = ap (λ (s : Setup). s .check) same ∙ m .check ∙ ap (λ (x : Chip). x .check) (sym (l .chip));
+          size = ap (λ (x : Chip). length (x .regs)) (l .chip) ∙ length-left six′ (c .regs) (m .size) (six-few choose config c) (l .on) (l .new);
+        }
+
+    above : (i : ℕ) → 12 ≤ i → getD (c′ .regs) i 0 ≡ getD (c .regs) i 0
+    above i h = ap (λ (x : Chip). getD (x .regs) i 0) (l .chip) ∙ left-above six′ (c .regs) (m .size) (six-few choose config c) (l .on) (l .new) i h
+
+    pub same-calibration : calibrationOf c′ ≡ calibrationOf c
+    same-calibration =
+        let a = above 0x50 (omega arith) in
+        let b = above 0x51 (omega arith) in
+        let e = above 0x59 (omega arith) in
+        λ i. calibration (a i) (b i) (e i)
+
+    pub same-plan : planOn choose config c′ ≡ planOn choose config c
+    unfolding planOn
+    same-plan =
+        ap (λ (adc : AdcTransferFunction). choose config >>= λ steps. planFor (adc .gain) (adc .offset) config (steps .scd) (steps .ocd))
+        same-calibration
+
+    -- with a first part of the six written over it
+    pub more-left : (k : ℕ) → k ≤ length six′ → withRegs c′ (put (c′ .regs) 6 (take k six′)) ≡ chipLeft choose config c (l .on) (max (l .new) k)
+    more-left k h =
+        ap (λ (x : Chip). withRegs x (put (x .regs) 6 (take k six′))) (l .chip)
+        ∙ ap (withRegs c) (left-more six′ (c .regs) (m .size) (six-few choose config c) (l .on) (l .new) k (l .last) (l .few) h)
+
+    pub more-new : (k : ℕ) → k ≤ length six′ → Leaves choose config d c d′ (withRegs c′ (put (c′ .regs) 6 (take k six′)))
+    more-new k h =
+        let few = six-few choose config c in
+        record {
+          new = max (l .new) k;
+          on = l .on;
+          few = omega (arith, l .few);
+          last = λ e. omega (arith, l .last e, l .few);
+          chip = more-left k h;
+          recorded = more-recorded k (omega arith) (l .recorded);
+        }

@@ -1,0 +1,110 @@
+-- How long the log of a program can become, on any wire; and so of the bus's calls: 7 bytes for a read, and for a write its field and, without
+-- checks, 7 bytes for the read back.
+-- Assumes nothing.
+use mathlib.Core.Path.{_≡_, refl, sym, ap, _∙_}
+use mathlib.Core.Bool.{Bool, true, false, cond, not, _||_}
+use mathlib.Core.List.{List, _++_, append-assoc}
+use Prim.Native.Nat.{ℕ, _+_, _*_, _≤_}
+use native.Mathlib.Omega.{arith}
+use lib.Dec.{eqb, ltb}
+use lib.ListN.{length, replicate, length-append}
+use Rattle.refusals.specs.Refusal.{Refusal, Answer, value, refused}
+use Rattle.frames.specs.Frames.{writeFrame}
+use Rattle.frames.proofs.Frames.{length-writeFrame}
+use Rattle.bus.specs.Fields.{if_then_else_, field}
+use Rattle.bus.specs.Transfers.{Transfer, read, write, Outcome, logField}
+use Rattle.bus.specs.Programs.{Prog, ret, ask, bind, proceed, _orLeave_, _>>=_}
+use Rattle.bus.specs.Raw.{sound, plainRead, askFrame, checkedRead, readRaw, readBytes, askWrite, send, askBack, writeRaw}
+use Rattle.bus.specs.declared.raw.Setup.{Setup}
+use Rattle.chip.specs.Devices.{onDevice, logOf}
+use Rattle.chip.specs.OnChip.{Wired, onWire, onChip}
+
+-- ---- the length of a log
+pub log-bind : {A B : Type 0} (p : Prog A) (f : A → Prog B) (w : Wired)
+    → logOf onWire (bind p f) w ≡ logOf onWire p w ++ logOf onWire (f (onChip p w .answer)) (onChip p w .device)
+unfolding logOf bind onDevice
+log-bind (ret a) f w = refl
+log-bind (ask t k) f w =
+    ap (_++_ (logField t)) (log-bind (k (onWire w t .answer)) f (onWire w t .device)) ∙ sym (append-assoc (logField t) _ _)
+
+-- at most n bytes on every wire
+pub record Logs {A : Type 0} (n : ℕ) (p : Prog A) : Type 0 where
+  pub most : (w : Wired) → length (logOf onWire p w) ≤ n
+
+pub logs-ret : {A : Type 0} (n : ℕ) (a : A) → Logs n (ret a)
+unfolding logOf
+logs-ret n a = record { most = λ w. omega arith }
+
+logs-one : {A : Type 0} (n : ℕ) (t : Transfer) (f : Outcome → A) → length (logField t) ≤ n → Logs n (ask t (λ o. ret (f o)))
+unfolding logOf
+logs-one n t f h = record { most = λ w. rw length-append (omega arith) }
+
+logs-if : {A : Type 0} (n : ℕ) (c : Bool) {p q : Prog A} → Logs n p → Logs n q → Logs n (if c then p else q)
+logs-if n true h k = h
+logs-if n false h k = k
+
+module _ {A B : Type 0} (m n : ℕ) where
+  pub logs-bind : {p : Prog A} (f : A → Prog B) → Logs m p → ((a : A) → Logs n (f a)) → Logs (m + n) (bind p f)
+  logs-bind {p} f h g = record {
+    most = λ w. rw (log-bind p f w, length-append) (omega (arith, h .most w, g (onChip p w .answer) .most (onChip p w .device)));
+  }
+
+module _ {A B : Type 0} (leave : Refusal → B) (f : A → Prog B) where
+  pub logs-proceed : (n : ℕ) (y : Answer A) → ((a : A) → y ≡ value a → Logs n (f a)) → Logs n (proceed leave f y)
+  unfolding proceed
+  logs-proceed n (value a) g = g a refl
+  logs-proceed n (refused r) g = logs-ret n (leave r)
+
+  pub logs-call : (m n : ℕ) {p : Prog (Answer A)} → Logs m p → ((a : A) → Logs n (f a)) → Logs (m + n) ((p orLeave leave) >>= f)
+  unfolding _>>=_
+  logs-call m n h g = logs-bind m n (proceed leave f) h (λ y. logs-proceed n y (λ a e. g a))
+
+-- ---- the bus's calls
+read-log : (a reg n : ℕ) → length (logField (read a reg n)) ≤ 7
+unfolding logField field
+read-log a reg n = omega arith
+
+write-log : (a : ℕ) (bytes : List ℕ) → length (logField (write a bytes)) ≡ 4 + length bytes
+unfolding logField field
+write-log a bytes = omega arith
+
+-- a write's field, and without checks the field of the read back
+abbrev pub writeLog : Bool → ℕ → ℕ
+writeLog check k = 5 + cond check 2 1 * k + cond check 0 7
+
+module _ (s : Setup) (reg : ℕ) where
+  pub logs-read : (n : ℕ) → Logs 7 (readBytes s reg n)
+  unfolding readBytes readRaw plainRead checkedRead askFrame
+  logs-read n =
+      let buf : List ℕ = replicate n 0 in
+      logs-bind 7 0 _
+      (logs-if 7 (not (sound s)) (logs-ret 7 _)
+      (logs-if 7 (s .check)
+      (logs-if 7 (ltb (2 * s .x) (length buf)) (logs-ret 7 _)
+      (logs-if 7 (eqb (length buf) 0) (logs-ret 7 _)
+      (logs-if 7 (ltb 256 (reg + length buf)) (logs-ret 7 _) (logs-one 7 _ _ (read-log (s .address) reg _)))))
+      (logs-if 7 (ltb 256 (reg + length buf)) (logs-ret 7 _) (logs-one 7 _ _ (read-log (s .address) reg _)))))
+      (λ r. logs-ret 0 _)
+
+  module _ (bytes : List ℕ) where
+    abbrev sent : ℕ
+    sent = 5 + cond (s .check) 2 1 * length bytes
+
+    logs-send : Logs sent (send s reg bytes)
+    unfolding send askWrite
+    logs-send =
+        let size = length-writeFrame (s .check) (s .address) reg bytes in
+        logs-if sent (not (sound s)) (logs-ret sent _)
+        (logs-if sent (ltb 8 (length bytes)) (logs-ret sent _)
+        (logs-if sent (eqb (length bytes) 0) (logs-ret sent _)
+        (logs-if sent (ltb 256 (reg + length bytes)) (logs-ret sent _)
+        (logs-one sent _ _ (omega (arith, write-log (s .address) (writeFrame (s .check) (s .address) reg bytes)))))))
+
+    logs-back : (check : Bool) → Logs (cond check 0 7) (if check || eqb (length bytes) 0 then ret (value tt) else askBack (s .address) reg bytes)
+    unfolding askBack
+    logs-back true = logs-ret 0 _
+    logs-back false = logs-if 7 (eqb (length bytes) 0) (logs-ret 7 _) (logs-one 7 _ _ (read-log (s .address) reg (length bytes)))
+
+    pub logs-write : Logs (writeLog (s .check) (length bytes)) (writeRaw s reg bytes)
+    unfolding writeRaw
+    logs-write = logs-call refused _ sent (cond (s .check) 0 7) logs-send (λ x. logs-back (s .check))

@@ -1,0 +1,119 @@
+-- The bus's calls on any wire: a read leaves the chip as it was and gives exactly its registers; a write leaves a first part of its bytes new, and
+-- says done only with all of them. And of a `do` on any wire, what holds after its first call.
+-- Assumes nothing.
+use mathlib.Core.Path.{_≡_, refl, sym, ap, subst, _∙_}
+use mathlib.Core.Bool.{Bool, true, false, not}
+use mathlib.Core.List.{List}
+use mathlib.Core.Option.{Option, none, some}
+use Prim.Native.Nat.{ℕ, _+_, _*_, _≤_, _<_}
+use native.Mathlib.Omega.{arith}
+use lib.ListN.{length, take, replicate, length-replicate}
+use Rattle.refusals.specs.Refusal.{Refusal, Answer, value, refused, answering}
+use Rattle.settings.proofs.Values.{refused-not, same-value}
+use Rattle.frames.specs.Frames.{right, readFrame}
+use Rattle.frames.specs.Put.{put}
+use Rattle.bus.specs.Fields.{if_then_else_}
+use Rattle.bus.specs.Transfers.{fault}
+use Rattle.bus.specs.Programs.{Prog, ret, _orLeave_, _>>=_}
+use Rattle.bus.specs.Raw.{Done, Read, sound, gives, refuses, plainly, whereRight, checkedly, readRaw, readBytes, writeRaw}
+use Rattle.bus.specs.declared.raw.Setup.{Setup}
+use Rattle.bq769x0.specs.Record.{isSound}
+use Rattle.bq769x0.specs.declared.BQ769x0.{BQ769x0}
+use Rattle.bq769x0.proofs.Speaks.{some-inputs}
+use Rattle.chip.specs.Devices.{Reached, reached, onDevice}
+use Rattle.chip.specs.Chip.{withRegs, held}
+use Rattle.chip.specs.OnChip.{Matches, Wired, next, onWire, onChip}
+use Rattle.chip.proofs.Devices.{device-bind, went-on, went-off}
+use Rattle.chip.proofs.Shows.{length-held, delivers}
+use Rattle.chip.proofs.FirstPart.{newBytes, new-few}
+use Rattle.chip.proofs.Raws.{judged, judged-right, reads, write-cut, write-leaves}
+
+-- a sound record's device has inputs for two registers at a time
+pub two-fit : (d : BQ769x0) → isSound d ≡ true → 2 ≤ 2 * d .x
+two-fit d e = omega (arith, some-inputs d e)
+
+-- ---- a read
+cut-refused : (check : Bool) (address : ℕ) (buf bytes : List ℕ) → (r : Refusal) × (judged check address buf (fault bytes) .answer ≡ refused r)
+unfolding plainly checkedly whereRight
+cut-refused false address buf bytes = (_, refl)
+cut-refused true address buf bytes = by (right _ _)
+  where
+    by : (yes : Bool) → (r : Refusal) × ((if yes then gives (refuses 2) buf else gives (refuses 1) buf) .answer ≡ refused r)
+    by true = (_, refl)
+    by false = (_, refl)
+
+module _ (s : Setup) (ok : sound s ≡ true) (w : Wired) (m : Matches s (w .chip)) (reg : ℕ) where
+  module _ (n : ℕ) (room : reg + n ≤ 256) (few : 1 ≤ n) (most : n ≤ 2 * s .x) where
+    -- what is given of a frame of k registers, cut or not
+    abbrev given : ℕ → Option ℕ → Read
+    given k cut = judged (s .check) (s .address) (replicate n 0) (delivers cut (readFrame (s .check) (s .address) (held reg k (w .chip .regs))))
+
+    abbrev answer : Read → Answer (List ℕ)
+    answer r = answering (r .answer) (r .bytes)
+
+    read-gives : onChip (readBytes s reg n) w ≡ reached (answer (given n (w .cuts 0))) (next w (w .chip))
+    unfolding readBytes onDevice
+    read-gives =
+        let size : length {A = ℕ} (replicate n 0) ≡ n = length-replicate n 0 in
+        let bytes : List ℕ = replicate n 0 in
+        device-bind onWire (readRaw s reg bytes) _ w
+        ∙ ap (λ (r : Reached Wired Read). reached (answer (r .answer)) (r .device))
+        (reads s ok w m reg bytes (rw size room) (rw size few) (rw size most) ∙ ap (λ (k : ℕ). reached (given k (w .cuts 0)) (next w (w .chip))) size)
+
+    exactly : (cut : Option ℕ) (bytes : List ℕ) → answer (given n cut) ≡ value bytes → bytes ≡ held reg n (w .chip .regs)
+    exactly none bytes e =
+        let same = length-held reg n (w .chip .regs) ∙ sym (length-replicate {A = ℕ} n 0) in
+        let right = judged-right (s .check) (s .address) (replicate n 0) (held reg n (w .chip .regs)) same in
+        same-value (sym e ∙ ap answer right)
+    exactly (some j) bytes e =
+        let off = cut-refused (s .check) (s .address) (replicate n 0) (take j (readFrame (s .check) (s .address) (held reg n (w .chip .regs)))) in
+        refused-not (sym (ap (λ (a : Answer Done). answering a (given n (some j) .bytes)) (off .1)) ∙ e)
+
+    pub read-any : (onChip (readBytes s reg n) w .device .chip ≡ w .chip)
+        × ((bytes : List ℕ) → onChip (readBytes s reg n) w .answer ≡ value bytes → bytes ≡ held reg n (w .chip .regs))
+    read-any = (
+      ap (λ (r : Reached Wired (Answer (List ℕ))). r .device .chip) read-gives,
+      λ bytes e. exactly (w .cuts 0) bytes (sym (ap (λ (r : Reached Wired (Answer (List ℕ))). r .answer) read-gives) ∙ e),
+    )
+
+  -- ---- a write
+  module _ (bytes : List ℕ) (other : 0 < reg) (room : reg + length bytes ≤ 256) (few : 1 ≤ length bytes) (most : length bytes ≤ 8) where
+    all-done : (cut : Option ℕ) → w .cuts 0 ≡ cut → (x : Done) → onChip (writeRaw s reg bytes) w .answer ≡ value x
+        → newBytes (s .check) cut bytes ≡ length bytes
+    all-done none e x v = refl
+    all-done (some j) e x v =
+        refused-not (sym (ap (λ (r : Reached Wired (Answer Done)). r .answer) (write-cut s ok w m reg bytes other room few most j e)) ∙ v)
+
+    pub write-any : (k : ℕ)
+        × (k ≤ length bytes)
+        × (onChip (writeRaw s reg bytes) w .device .chip ≡ withRegs (w .chip) (put (w .chip .regs) reg (take k bytes)))
+        × ((x : Done) → onChip (writeRaw s reg bytes) w .answer ≡ value x → k ≡ length bytes)
+    write-any = (
+      newBytes (s .check) (w .cuts 0) bytes,
+      new-few (s .check) (w .cuts 0) bytes,
+      write-leaves s ok w m reg bytes other room few most,
+      all-done (w .cuts 0) refl,
+    )
+
+-- ---- a `do`
+module _ {A B : Type 0} (Q : Reached Wired B → Type 0) (leave : Refusal → B) (f : A → Prog B) where
+  pub through : (p : Prog (Answer A)) (w : Wired)
+      → ((r : Refusal) → onChip p w .answer ≡ refused r → Q (reached (leave r) (onChip p w .device)))
+      → ((a : A) → onChip p w .answer ≡ value a → Q (onChip (f a) (onChip p w .device)))
+      → Q (onChip ((p orLeave leave) >>= f) w)
+  through p w off on = by (onChip p w .answer) refl
+    where
+      known : {y : Answer A} → onChip p w .answer ≡ y → onChip p w ≡ reached y (onChip p w .device)
+      known e = ap (λ (z : Answer A). reached z (onChip p w .device)) e
+
+      by : (y : Answer A) → onChip p w .answer ≡ y → Q (onChip ((p orLeave leave) >>= f) w)
+      by (value a) e = subst Q (sym (went-on onWire p leave f w (onChip p w .device) a (known e))) (on a e)
+      by (refused r) e = subst Q (sym (went-off onWire p leave f w (onChip p w .device) r (known e))) (off r e)
+
+  -- the same where the call makes no transfer
+  pub through-ret : (y : Answer A) (w : Wired)
+      → ((r : Refusal) → y ≡ refused r → Q (reached (leave r) w))
+      → ((a : A) → y ≡ value a → Q (onChip (f a) w))
+      → Q (onChip ((ret y orLeave leave) >>= f) w)
+  unfolding onDevice
+  through-ret y w off on = through (ret y) w off on

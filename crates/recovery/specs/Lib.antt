@@ -1,0 +1,2 @@
+pub mod Recovery
+pub mod Runs

@@ -1,0 +1,78 @@
+-- What an `init` that was cut leaves on the chip and in the record.
+-- Assumes nothing.
+use mathlib.Core.Path.{_≡_}
+use mathlib.Core.Bool.{Bool, true}
+use mathlib.Core.List.{List, []}
+use Prim.Native.Nat.{ℕ, _≤_}
+use lib.ListN.{length, take, getD, set}
+use lib.Bits.{bitOr}
+use Rattle.refusals.specs.Refusal.{Answer, value, refused}
+use Rattle.adc.specs.Registers.{calibration}
+use Rattle.adc.specs.declared.transfer.AdcTransferFunction.{AdcTransferFunction}
+use Rattle.frames.specs.Put.{put}
+use Rattle.settings.specs.Order.{_>>=_}
+use Rattle.settings.specs.Steps.{InMv}
+use Rattle.settings.specs.Plan.{Planned, planFor}
+use Rattle.settings.specs.declared.Config.{Config}
+use Rattle.bus.specs.Fields.{if_then_else_}
+use Rattle.bq769x0.specs.Record.{accepts, withCalibration, withShunt}
+use Rattle.bq769x0.specs.declared.BQ769x0.{BQ769x0}
+use Rattle.chip.specs.Chip.{withRegs}
+use Rattle.chip.specs.declared.Chip.{Chip}
+
+-- the calibration that the chip holds
+abbrev pub calibrationOf : Chip → AdcTransferFunction
+calibrationOf c = calibration (getD (c .regs) 0x50 0) (getD (c .regs) 0x51 0) (getD (c .regs) 0x59 0)
+
+-- the plan for a configuration on a chip, the steps chosen in some way
+unfoldable pub planOn : (Config → Answer InMv) → Config → Chip → Answer Planned
+planOn choose config c =
+    choose config >>= λ steps.
+    planFor (calibrationOf c .gain) (calibrationOf c .offset) config (steps .scd) (steps .ocd)
+
+-- its six bytes
+abbrev pub bytesOf : Answer Planned → List ℕ
+bytesOf (value plan) = plan .regs
+bytesOf (refused r) = []
+
+-- 06 to 0B: the first n new and the rest old
+abbrev pub firstNew : ℕ → List ℕ → List ℕ → List ℕ
+firstNew n six regs = put regs 0x06 (take n six)
+
+-- 05: its byte with bit 6 set and all others as they were
+abbrev pub bit6 : ℕ
+bit6 = 0b0100_0000
+
+abbrev pub counted : List ℕ → List ℕ
+counted regs = set regs 0x05 (bitOr (getD regs 0x05 0) bit6)
+
+-- the first n new, and 05 set or not
+abbrev pub regsLeft : Bool → ℕ → List ℕ → List ℕ → List ℕ
+regsLeft on n six regs = if on then counted (firstNew n six regs) else firstNew n six regs
+
+module _ (choose : Config → Answer InMv) (config : Config) (c : Chip) where
+  -- the six bytes that are new; none where the configuration is refused
+  abbrev pub six : List ℕ
+  six = bytesOf (planOn choose config c)
+
+  abbrev pub chipLeft : Bool → ℕ → Chip
+  chipLeft on n = withRegs c (regsLeft on n six (c .regs))
+
+module _ (choose : Config → Answer InMv) (config : Config) (d : BQ769x0) (c : Chip) where
+  -- the record as it was; or with the chip's calibration, if the steps were chosen; or with the mark and the new shunt too, all six being new
+  pub data Recorded : ℕ → BQ769x0 → Type 0 where
+    as-it-was : {n : ℕ} → Recorded n d
+    calibrated : {n : ℕ} → accepts (choose config) ≡ true → Recorded n (withCalibration d (calibrationOf c))
+    marked : {n : ℕ} → n ≡ 6 → Recorded n (withShunt (withCalibration d (calibrationOf c)) (config .shunt))
+
+  -- the record and the chip that are left
+  pub record Leaves (d′ : BQ769x0) (c′ : Chip) : Type 0 where
+    -- so many of the six are new, which is none where the configuration is refused
+    pub new : ℕ
+    pub few : new ≤ length (six choose config c)
+    -- 05 is its old byte, or set once all six are new
+    pub on : Bool
+    pub last : on ≡ true → new ≡ 6
+    -- no other register changes
+    pub chip : c′ ≡ chipLeft choose config c on new
+    pub recorded : Recorded new d′

@@ -1,0 +1,1 @@
+// What a cut setting up leaves, and that it can be done again. There is no code here: `specs/` and `proofs/` are the crate.
