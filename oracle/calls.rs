@@ -1,0 +1,196 @@
+// A job on the crate, behind the added refusals. Included once for each build of the crate, which is `bq` here.
+use crate::bus::{hex, lines, Bus};
+use crate::job::Job;
+use bq::*;
+use std::panic::{catch_unwind, AssertUnwindSafe};
+
+/// What callrun prints for this job.
+pub fn run(job: &Job, bus: &mut Bus) -> String {
+    match job.x {
+        5 => on(BQ769x0::<5>::new(job.address, job.cells), job, bus),
+        10 => on(BQ769x0::<10>::new(job.address, job.cells), job, bus),
+        15 => on(BQ769x0::<15>::new(job.address, job.cells), job, bus),
+        _ => "refused 9\n".to_string(),
+    }
+}
+
+fn on<const X: usize>(device: Option<BQ769x0<X>>, job: &Job, bus: &mut Bus) -> String
+where
+    [(); X * 2]: Sized,
+    [(); X * 4]: Sized,
+{
+    let Some(device) = device else { return "refused 10\n".to_string() };
+    if job.address > 127 {
+        return "refused 11\n".to_string();
+    }
+    let mut running = Running { device, job, bus };
+    let calls: String = job.calls.iter().map(|(tag, value)| running.call(*tag, value)).collect();
+    calls + &running.record()
+}
+
+struct Running<'a, 'b, const X: usize> {
+    device: BQ769x0<X>,
+    job: &'a Job,
+    bus: &'a mut Bus<'b>,
+}
+
+impl<const X: usize> Running<'_, '_, X>
+where
+    [(); X * 2]: Sized,
+    [(); X * 4]: Sized,
+{
+    /// A call's transfers, its answer and its data.
+    fn call(&mut self, tag: u8, value: &[u8]) -> String {
+        let from = self.bus.log.len();
+        self.bus.refused = None;
+        let count = if tag == 0x32 { u16::from_be_bytes([value[1], value[2]]) } else { 0 };
+        let mut data = vec![0xAA; count as usize];
+        let answer = catch_unwind(AssertUnwindSafe(|| self.answer(tag, value, &mut data)));
+        let line = match (self.bus.refused, answer) {
+            (_, Err(_)) => "panic".to_string(),
+            (Some(number), Ok(Ok(line))) => format!("{line} after a transfer refused {number}"),
+            (Some(number), Ok(Err(_))) => format!("refused {number}"),
+            (None, Ok(Ok(line))) => line,
+            (None, Ok(Err(number))) => format!("refused {number}"),
+        };
+        let data = if tag == 0x32 { format!("data{}\n", hex(&data)) } else { String::new() };
+        lines(&self.bus.log[from..]) + &line + "\n" + &data
+    }
+
+    fn record(&self) -> String {
+        let (initialised, shunt, cells) = self.device.kept();
+        let mut text = format!("record {X} {} {} {}", self.job.cells, self.job.address, self.job.check as u8);
+        text += &format!(" {} {} {} {}", self.device.adc_gain(), self.device.adc_offset(), initialised as u8, shunt.0);
+        for i in 0..15 {
+            text += &format!(" {}", cells.get(i).map_or(0, |cell| cell.0));
+        }
+        text + &format!(" tape {} log {}\n", self.bus.at, self.bus.log.len())
+    }
+
+    /// The line of an answer, or a refusal's number and figures.
+    fn answer(&mut self, tag: u8, value: &[u8], data: &mut [u8]) -> Result<String, String> {
+        let (device, bus) = (&mut self.device, &mut *self.bus);
+        let done = |()| "done".to_string();
+        let flag = value == [1];
+        match tag {
+            0x21 => return self.init(value),
+            0x22 => return self.cells(value[0]),
+            0x23 => return self.current(),
+            0x24 => device.voltage(bus).map(|v| format!("voltage {}", v.0)),
+            0x25 => device.temperature(bus).map(degrees),
+            0x26 => device.enable_balancing(bus, value[0]).map(done),
+            0x27 => device.balancing_state(bus).map(|set| format!("balancing {set}")),
+            0x28 => device.sys_stat(bus).map(|status| format!("status {}", status.kept())),
+            0x29 => device.sys_stat_reset(bus, SysStat::from_bits(value[0]).ok_or("18")?).map(done),
+            0x2A => device.discharge(bus, flag).map(done),
+            0x2B => device.charge(bus, flag).map(done),
+            0x2C => device.is_charge_enabled(bus).map(|on| format!("charging {}", on as u8)),
+            0x2D => device.ship_enter(bus).map(done),
+            0x2E => device.enable_adc(bus, flag).map(done),
+            0x2F => device.set_temperature_source(bus, source(flag)).map(done),
+            0x30 => device.temperature_source(bus).map(|s| format!("source {}", source_name(s))),
+            0x31 => device.coulomb_counter_mode(bus, mode(value[0])).map(done),
+            0x32 => device.read_raw(bus, value[0], data).map(done),
+            _ => device.write_raw(bus, value[0], &value[1..]).map(done),
+        }
+        .map_err(number)
+    }
+
+    /// 12 and 13 in front.
+    fn init(&mut self, value: &[u8]) -> Result<String, String> {
+        let config = config(value);
+        let (shunt, scd, ocd) = (config.shunt.0, config.scd_threshold.0, config.ocd_threshold.0);
+        if shunt == 0 || shunt > 2_147_483_647 {
+            return Err("12".to_string());
+        }
+        if [scd, ocd].iter().any(|asked| *asked as u64 * shunt as u64 >= 256_000) {
+            return Err("13".to_string());
+        }
+        self.device.init(self.bus, &config).map(|found| set_up(&found)).map_err(number)
+    }
+
+    /// 19 in front, where the crate would not answer 4.
+    fn cells(&mut self, room: u8) -> Result<String, String> {
+        if self.device.is_initialized() && room < self.job.cells {
+            return Err("19".to_string());
+        }
+        let cells = self.device.cell_voltages(self.bus).map_err(number)?;
+        Ok(cells.iter().fold("cells".to_string(), |text, cell| text + &format!(" {}", cell.0)))
+    }
+
+    /// 4 in front.
+    fn current(&mut self) -> Result<String, String> {
+        if !self.device.is_initialized() {
+            return Err("4".to_string());
+        }
+        self.device.current(self.bus).map(|found| format!("current {}", found.0)).map_err(number)
+    }
+}
+
+pub fn set_up(found: &CalculatedValues) -> String {
+    let range = (found.ocdscd_range_used == OCDSCDRange::Upper) as u8;
+    let (scd, ocd) = (found.scd_threshold.0, found.ocd_threshold.0);
+    format!("init range {range} scd {scd} ocd {ocd} uv {} ov {}", found.uv_threshold.0, found.ov_threshold.0)
+}
+
+/// The crate's errors by 01's numbers, with their figures.
+pub fn number(error: Error) -> String {
+    match error {
+        Error::CRCMismatch => "1".to_string(),
+        Error::I2CError => "2".to_string(),
+        Error::BufTooLarge => "3".to_string(),
+        Error::Uninitialized => "4".to_string(),
+        Error::VerifyError(register) => format!("5 {register}"),
+        Error::OCDSCDRangeMismatch => "6".to_string(),
+        Error::UVThresholdUnobtainable(low, high) => format!("7 {} {}", low.0, high.0),
+        Error::OVThresholdUnobtainable(low, high) => format!("8 {} {}", low.0, high.0),
+    }
+}
+
+/// The set-up in field 21.
+pub fn config(value: &[u8]) -> Config {
+    let word = |i: usize| u32::from_be_bytes(value[4 * i..4 * i + 4].try_into().unwrap());
+    Config {
+        shunt: MicroOhms(word(0)),
+        scd_threshold: Amperes(word(1)),
+        ocd_threshold: Amperes(word(2)),
+        uv_threshold: MilliVolts(word(3)),
+        ov_threshold: MilliVolts(word(4)),
+        scd_delay: at(value[20], [SCDDelay::_70uS, SCDDelay::_100uS, SCDDelay::_200uS, SCDDelay::_400uS]),
+        ocd_delay: at(value[21], ocd_delays()),
+        uv_delay: at(value[22], [UVDelay::_1s, UVDelay::_4s, UVDelay::_8s, UVDelay::_16s]),
+        ov_delay: at(value[23], [OVDelay::_1s, OVDelay::_4s, OVDelay::_8s, OVDelay::_16s]),
+    }
+}
+
+fn at<T, const N: usize>(code: u8, list: [T; N]) -> T {
+    list.into_iter().nth(code as usize).expect("a code of the list")
+}
+
+fn ocd_delays() -> [OCDDelay; 8] {
+    use OCDDelay::*;
+    [_8ms, _20ms, _40ms, _80ms, _160ms, _320ms, _640ms, _1280ms]
+}
+
+fn mode(code: u8) -> CoulombCounterMode {
+    match code {
+        0 => CoulombCounterMode::Disabled,
+        1 => CoulombCounterMode::OneShot,
+        _ => CoulombCounterMode::Continuous,
+    }
+}
+
+fn source(thermistor: bool) -> TemperatureSource {
+    if thermistor { TemperatureSource::ExternalThermistor } else { TemperatureSource::InternalDie }
+}
+
+fn source_name(source: TemperatureSource) -> &'static str {
+    if source == TemperatureSource::InternalDie { "die" } else { "thermistor" }
+}
+
+fn degrees(found: Temperature) -> String {
+    match found {
+        Temperature::InternalDie(d) => format!("temperature die {}", d.0),
+        Temperature::ExternalThermistor(d) => format!("temperature thermistor {}", d.0),
+    }
+}

@@ -1,0 +1,286 @@
+//! Jobs by the throw of a seeded dice: the tape is written while the crate runs the calls, then some jobs are damaged.
+use crate::bus::{field_of, Bus, Transfer};
+use crate::crates::run;
+use crate::job::parse;
+use crc_any::CRCu8;
+
+/// Past the 32,768 bytes that count, and little enough for a pipe to take whole.
+const LONGEST: usize = 40_000;
+
+pub struct Dice(pub u64);
+
+impl Dice {
+    /// The next number of splitmix64.
+    pub fn any(&mut self) -> u64 {
+        self.0 = self.0.wrapping_add(0x9E37_79B9_7F4A_7C15);
+        let z = (self.0 ^ (self.0 >> 30)).wrapping_mul(0xBF58_476D_1CE4_E5B9);
+        let z = (z ^ (z >> 27)).wrapping_mul(0x94D0_49BB_1331_11EB);
+        z ^ (z >> 31)
+    }
+
+    pub fn below(&mut self, n: usize) -> usize {
+        (self.any() % n as u64) as usize
+    }
+
+    fn percent(&mut self, n: usize) -> bool {
+        self.below(100) < n
+    }
+
+    fn pick<T: Copy>(&mut self, list: &[T]) -> T {
+        list[self.below(list.len())]
+    }
+
+    fn byte(&mut self) -> u8 {
+        if self.percent(25) { self.pick(&[0x00, 0x01, 0x7F, 0x80, 0xFF]) } else { self.any() as u8 }
+    }
+
+    fn bytes(&mut self, n: usize) -> Vec<u8> {
+        (0..n).map(|_| self.byte()).collect()
+    }
+}
+
+/// Registers 50, 51 and 59, as the job's chip has them.
+type Calibration = [u8; 3];
+
+pub fn job(dice: &mut Dice) -> Vec<u8> {
+    if dice.below(200) == 0 {
+        let length = dice.below(40);
+        return dice.bytes(length);
+    }
+    let device = device(dice);
+    let chip = [dice.byte(), dice.byte(), dice.byte()];
+    let mut bytes = field_of(0x20, &device);
+    let count = if dice.below(2000) == 0 { 1000 + dice.below(6000) } else { dice.below(9) };
+    for i in 0..count {
+        let tag = match dice.below(10) {
+            _ if i == 0 && dice.percent(75) => 0x21,
+            0 => 0x22,
+            1 => 0x23,
+            _ => 0x21 + dice.below(19) as u8,
+        };
+        let value = call(dice, tag, device[0] as usize, &chip);
+        bytes.extend(field_of(tag, &value));
+    }
+    bytes.extend([0x3F, 0, 0]);
+    let tape = tape(dice, &bytes, chip);
+    bytes.extend(tape);
+    if dice.percent(12) {
+        damage(dice, &mut bytes);
+    }
+    bytes.truncate(LONGEST);
+    bytes
+}
+
+fn device(dice: &mut Dice) -> [u8; 4] {
+    let x = if dice.percent(2) { dice.byte() } else { dice.pick(&[5, 10, 15]) };
+    let (low, high) = match x {
+        5 => (3, 5),
+        10 => (6, 10),
+        _ => (9, 15),
+    };
+    let cells = match dice.below(50) {
+        0 => dice.byte(),
+        1 => dice.pick(&[low - 1, high + 1]),
+        _ => low + dice.below(high as usize - low as usize + 1) as u8,
+    };
+    let address = match dice.below(50) {
+        0 => dice.byte(),
+        1 => dice.pick(&[0, 127, 128, 255]),
+        2..=20 => dice.pick(&[0x08, 0x18]),
+        _ => dice.below(128) as u8,
+    };
+    [x, cells, address, dice.below(2) as u8]
+}
+
+fn call(dice: &mut Dice, tag: u8, x: usize, chip: &Calibration) -> Vec<u8> {
+    match tag {
+        0x21 => init(dice, chip),
+        0x22 => vec![if dice.percent(80) { 15 + dice.below(4) as u8 } else { dice.below(17) as u8 }],
+        0x26 | 0x29 => vec![if dice.percent(80) { dice.byte() & 0xBF } else { dice.byte() }],
+        0x2A | 0x2B | 0x2E | 0x2F => vec![dice.below(2) as u8],
+        0x31 => vec![dice.below(3) as u8],
+        0x32 => {
+            let most = 2 * x.clamp(1, 15);
+            let count = match dice.below(4) {
+                0 => dice.pick(&[0, 1, most - 1, most, most + 1, 255, 256, 257, 512]),
+                1 => dice.below(513),
+                _ => dice.below(most + 1),
+            };
+            vec![register(dice, count), (count >> 8) as u8, count as u8]
+        }
+        0x33 => {
+            let count = if dice.percent(90) { dice.below(10) } else { dice.below(65) };
+            let mut value = vec![register(dice, count)];
+            value.extend(dice.bytes(count));
+            value
+        }
+        _ => Vec::new(),
+    }
+}
+
+/// A register for a transfer of so many bytes: often one near which it would pass FF.
+fn register(dice: &mut Dice, count: usize) -> u8 {
+    if dice.percent(20) { (256 + dice.below(3)).saturating_sub(count + 1).min(255) as u8 } else { dice.byte() }
+}
+
+fn init(dice: &mut Dice, chip: &Calibration) -> Vec<u8> {
+    let shunt: u32 = match dice.below(20) {
+        0 => dice.pick(&[0, 1, 2_147_483_647, 2_147_483_648, u32::MAX]),
+        1 => dice.any() as u32,
+        2 => dice.pick(&[255_999, 256_000, 256_001]),
+        3..=9 => 1000,
+        _ => 1 + dice.below(10_000) as u32,
+    };
+    let (scd, ocd) = match dice.below(20) {
+        0..=1 => (dice.below(300), dice.below(300)),
+        2..=10 => (dice.below(101), dice.below(51)),
+        _ => (34 + dice.below(222), 15 + dice.below(241)),
+    };
+    let gain = 365 + (((chip[0] >> 2 & 3) << 3) | chip[2] >> 5) as i32;
+    let offset = chip[1] as i8 as i32;
+    let mv = |reading: i32| (reading * gain + offset * 1000) / 1000;
+    let words = [
+        shunt,
+        amperes(dice, scd, shunt),
+        amperes(dice, ocd, shunt),
+        threshold(dice, mv(0x1000), mv(0x1FF0)),
+        threshold(dice, mv(0x2008), mv(0x2FF8)),
+    ];
+    let mut value: Vec<u8> = words.iter().flat_map(|word| word.to_be_bytes()).collect();
+    value.extend([dice.below(4) as u8, dice.below(8) as u8, dice.below(4) as u8, dice.below(4) as u8]);
+    value
+}
+
+/// A current that gives about so many millivolts, or one at a limit of the product.
+fn amperes(dice: &mut Dice, mv: usize, shunt: u32) -> u32 {
+    let shunt = shunt.max(1) as u64;
+    let asked = match dice.below(60) {
+        0 => dice.any() >> 32,
+        1 => dice.pick(&[0, 1, 255, 256, 65_535, 65_536, 0xFFFF_FFFF]),
+        2 => 256_000 / shunt + dice.below(2) as u64,
+        3 => 255_999 / shunt,
+        4 => (1 << 32) / shunt + dice.below(2) as u64,
+        _ => mv as u64 * 1000 / shunt + dice.below(2) as u64,
+    };
+    asked.min(0xFFFF_FFFF) as u32
+}
+
+fn threshold(dice: &mut Dice, low: i32, high: i32) -> u32 {
+    match dice.below(60) {
+        0 => dice.any() as u32,
+        1 => dice.pick(&[0, u32::MAX, 0x7FFF_FFFF, 0x8000_0000]),
+        2 => low as u32 - 1,
+        3 => high as u32 + 1,
+        4..=7 => dice.pick(&[low, low + 1, high - 1, high]) as u32,
+        _ => low as u32 + dice.below((high - low + 1) as usize) as u32,
+    }
+}
+
+/// How a job's transfers go: all well, all but one, or any of them ill.
+enum Course {
+    Clean,
+    OneAt(usize),
+    Wild,
+}
+
+struct Replies<'a> {
+    dice: &'a mut Dice,
+    check: bool,
+    chip: Calibration,
+    course: Course,
+    made: usize,
+    /// The last write's register and bytes, if the transfer before this was a write.
+    written: Vec<u8>,
+}
+
+fn tape(dice: &mut Dice, head: &[u8], chip: Calibration) -> Vec<u8> {
+    let Some(job) = parse(head) else { return dice.bytes(6) };
+    let course = match dice.below(10) {
+        0..=4 => Course::Clean,
+        5..=7 => Course::OneAt(1 + dice.below(12)),
+        _ => Course::Wild,
+    };
+    let mut replies = Replies { dice, check: job.check, chip, course, made: 0, written: Vec::new() };
+    let mut feed = |asked: &Transfer| replies.field(asked);
+    let mut bus = Bus::new(job.check, &[]);
+    bus.feed = Some(&mut feed);
+    run(&job, &mut bus, true);
+    bus.tape
+}
+
+impl Replies<'_> {
+    fn field(&mut self, asked: &Transfer) -> Vec<u8> {
+        self.made += 1;
+        let value = match asked.read {
+            Some(count) => self.value(asked, count),
+            None => Vec::new(),
+        };
+        self.written = if asked.read.is_none() { asked.sent.to_vec() } else { Vec::new() };
+        let ill = match self.course {
+            Course::Clean => false,
+            Course::OneAt(place) => self.made == place,
+            Course::Wild => self.dice.percent(20),
+        };
+        if ill { self.accident(value) } else { field_of(1, &value) }
+    }
+
+    /// The bytes a sound chip would give: what was just written, its calibration, any others; with check bytes in the check build.
+    fn value(&mut self, asked: &Transfer, on_bus: usize) -> Vec<u8> {
+        let register = asked.sent[0];
+        let count = if self.check { on_bus / 2 } else { on_bus };
+        let data = match register {
+            _ if !self.check && self.written.len() == count + 1 && self.written[0] == register => self.written[1..].to_vec(),
+            0x50 if count == 2 => self.chip[..2].to_vec(),
+            0x59 if count == 1 => self.chip[2..].to_vec(),
+            _ => self.dice.bytes(count),
+        };
+        if !self.check {
+            return data;
+        }
+        let mut value = Vec::new();
+        let mut crc = CRCu8::crc8();
+        crc.digest(&[asked.address << 1 | 1]);
+        for byte in data {
+            crc.digest(&[byte]);
+            value.extend([byte, crc.get_crc()]);
+            crc.reset();
+        }
+        value
+    }
+
+    fn accident(&mut self, mut value: Vec<u8>) -> Vec<u8> {
+        let dice = &mut *self.dice;
+        let kind = dice.below(20);
+        if kind >= 7 && kind <= 13 && !value.is_empty() {
+            let place = dice.below(value.len());
+            value[place] = if dice.percent(50) { value[place] ^ (1 << dice.below(8)) } else { dice.byte() };
+        }
+        match kind {
+            0..=9 => field_of(2, &value[..dice.below(value.len() + 1)]),
+            10..=14 => field_of(1, &value),
+            15 => field_of(dice.pick(&[1, 2]), &[value, dice.bytes(1)].concat()),
+            16 => field_of(1, &value[..value.len().saturating_sub(1 + dice.below(2))]),
+            17 => field_of(dice.byte(), &value),
+            18 => {
+                let whole = field_of(1, &value);
+                whole[..dice.below(whole.len())].to_vec()
+            }
+            _ => Vec::new(),
+        }
+    }
+}
+
+fn damage(dice: &mut Dice, bytes: &mut Vec<u8>) {
+    for _ in 0..1 + dice.below(3) {
+        let reach = if dice.percent(40) { bytes.len().min(40) } else { bytes.len() };
+        let place = dice.below(reach.max(1));
+        match dice.below(6) {
+            0 => bytes.insert(place.min(bytes.len()), dice.byte()),
+            1 => bytes.truncate(place),
+            _ if bytes.is_empty() => {}
+            2 => drop(bytes.remove(place)),
+            3 => bytes[place] ^= 1 << dice.below(8),
+            _ => bytes[place] = dice.byte(),
+        }
+    }
+}

@@ -1,0 +1,32 @@
+//! Makes jobs from a seed and writes them as the text that jobtests reads, and beside it what the crate prints of each under its name.
+#![allow(incomplete_features)]
+#![feature(generic_const_exprs)]
+mod bus;
+mod crates;
+mod job;
+mod make;
+
+use bus::hex;
+use make::Dice;
+use std::fmt::Write;
+
+/// Longer jobs are left to `compare`.
+const LONGEST: usize = 256;
+
+fn main() {
+    let arguments: Vec<String> = std::env::args().collect();
+    let [_, seed, count, jobs, answers] = &arguments[..] else { panic!("sample SEED COUNT JOBS ANSWERS") };
+    let (seed, count): (u64, usize) = (seed.parse().expect("a seed"), count.parse().expect("a count"));
+    let (mut asked, mut answered) = (String::new(), String::new());
+    let all = (0..).map(|index: u64| (index, make::job(&mut Dice(Dice(Dice(seed).any() ^ index).any()))));
+    for (index, bytes) in all.filter(|(_, bytes)| bytes.len() <= LONGEST).take(count) {
+        let name = format!("# the Rust's answer: seed {seed}, job {index}");
+        writeln!(asked, "{name}").unwrap();
+        for line in bytes.chunks(40) {
+            writeln!(asked, "{}", hex(line).trim_start()).unwrap();
+        }
+        write!(answered, "{name}\n{}", crates::text(&bytes, true)).unwrap();
+    }
+    std::fs::write(jobs, asked).expect("the jobs are written");
+    std::fs::write(answers, answered).expect("the answers are written");
+}
