@@ -2,12 +2,10 @@
 #![allow(incomplete_features)]
 #![feature(generic_const_exprs)]
 mod bus;
+mod chip;
 #[allow(dead_code)]
 mod crates;
 mod job;
-
-use bus::{field_of, Transfer};
-use crc_any::CRCu8;
 
 mod plain_checked {
     use crate::crates::plain_checked as calls;
@@ -30,35 +28,6 @@ mod check_wrapping {
     include!("limits.rs");
 }
 
-/// A chip whose registers count up past FF to 00: its field of the tape for a transfer.
-struct Chip {
-    registers: [u8; 256],
-    check: bool,
-}
-
-impl Chip {
-    fn field(&mut self, asked: &Transfer) -> Vec<u8> {
-        let step = if self.check { 2 } else { 1 };
-        let register = asked.sent[0] as usize;
-        let Some(count) = asked.read else {
-            for (i, byte) in asked.sent[1..].iter().step_by(step).enumerate() {
-                self.registers[(register + i) % 256] = *byte;
-            }
-            return field_of(1, &[]);
-        };
-        let mut value = Vec::new();
-        let mut crc = CRCu8::crc8();
-        crc.digest(&[asked.address << 1 | 1]);
-        for i in 0..count / step {
-            let byte = self.registers[(register + i) % 256];
-            crc.digest(&[byte]);
-            value.extend(&[byte, crc.get_crc()][..step]);
-            crc.reset();
-        }
-        field_of(1, &value)
-    }
-}
-
 /// What a build does, with overflow checks and without.
 fn both(checked: &str, wrapping: &str) -> String {
     if checked == wrapping { checked.to_string() } else { format!("with overflow checks: {checked}; without: {wrapping}") }
@@ -68,7 +37,7 @@ fn main() {
     std::panic::set_hook(Box::new(|_| {}));
     let plain = plain_checked::rows(false).into_iter().zip(plain_wrapping::rows(false));
     let check = check_checked::rows(true).into_iter().zip(check_wrapping::rows(true));
-    println!("| refusal: input | the crate without check bytes | with |\n|---|---|---|");
+    println!("| line of DIFFERENCES, refusal: input | the crate without check bytes | with |\n|---|---|---|");
     for (((input, a), (_, b)), ((_, c), (_, d))) in plain.zip(check) {
         let (plain, check) = (both(&a, &b), both(&c, &d));
         println!("| {input} | {plain} | {} |", if plain == check { "the same" } else { &check });

@@ -1,6 +1,9 @@
-// The rows of the scope's table, and the check byte's published vectors: each is run, and printed with what it should be.
+// The rows of the scope's table, the check byte's published vectors, and lines of docs/DIFFERENCES.md: each is run, and printed with what it
+// should be.
+mod beyond;
 mod cells;
 mod print;
+mod records;
 
 use adc::counter;
 use adc::counter::CurrentAnswer;
@@ -40,14 +43,9 @@ fn readings() {
     print::row(b"reading 0, same", adc_tf.apply(0).0, 4294967295);
 }
 
-// Set up at 1000 uOhm on a chip of gain 365 and offset 0.
-fn planned(scd: u32, ocd: u32, uv: u32, ov: u32) -> Plan {
-    let adc_tf = AdcTransferFunction {
-        gain: 365,
-        offset: 0,
-    };
-    let config = Config {
-        shunt: MicroOhms(1000),
+fn config(shunt: u32, scd: u32, ocd: u32, uv: u32, ov: u32) -> Config {
+    Config {
+        shunt: MicroOhms(shunt),
         scd_delay: SCDDelay::_200uS,
         scd_threshold: Amperes(scd),
         ocd_delay: OCDDelay::_320ms,
@@ -56,7 +54,16 @@ fn planned(scd: u32, ocd: u32, uv: u32, ov: u32) -> Plan {
         uv_threshold: MilliVolts(uv),
         ov_delay: OVDelay::_4s,
         ov_threshold: MilliVolts(ov),
+    }
+}
+
+// Set up at 1000 uOhm on a chip of gain 365 and offset 0.
+fn planned(scd: u32, ocd: u32, uv: u32, ov: u32) -> Plan {
+    let adc_tf = AdcTransferFunction {
+        gain: 365,
+        offset: 0,
     };
+    let config = config(1000, scd, ocd, uv, ov);
     match config.steps() {
         StepsAnswer::Chosen(steps) => setup::plan(adc_tf, config, steps),
         StepsAnswer::Refused(e) => Plan {
@@ -142,8 +149,8 @@ fn refusal(scd: u32, ocd: u32) -> u32 {
 
 fn steps() {
     print::row(b"SCD 255 A at 1000 uOhm: mV", scd(255), 200);
-    print::row(b"SCD 256 A: refused", scd(256), 13);
-    print::row(b"  set up: refused", refusal(256, 20), 13);
+    print::row(b"D1 SCD 256 A: refused", scd(256), 13);
+    print::row(b"SCD 256 A: set up: refused", refusal(256, 20), 13);
     print::row(b"OCD 256 A: set up: refused", refusal(50, 256), 13);
     print::row(b"SCD 100, OCD 55 A: refused", refusal(100, 55), 6);
     let regs = planned(44, 44, 2800, 4200).regs;
@@ -180,4 +187,6 @@ fn main() {
     cells::ten();
     cells::six();
     check_bytes();
+    beyond::functions();
+    records::records();
 }
