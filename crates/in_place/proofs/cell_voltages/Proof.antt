@@ -45,6 +45,7 @@ use Rattle.bus.specs.Raw.{asRaw}
 use Rattle.bus.specs.Transfers.{busOf}
 use Rattle.bus.specs.declared.Cursor.{Cursor}
 use Rattle.bus.specs.declared.raw.Raw.{Raw}
+use Rattle.bus.proofs.raw.RawAnswer.Laws as I′
 use Rattle.bus.proofs.raw.Raw as R
 use Rattle.bus.proofs.raw.Raw.Laws as R′
 use Rattle.bus.proofs.Cursor as P
@@ -209,7 +210,7 @@ module _ {M : Type 1} (𝓤 : URA M) (H : Heap 𝓤) (A : Atoms 𝓤) (W : Given
           land ! (from ! (stop !)) (init ! 20 refl (LL.lawful O.the-type O′.the-laws 𝓤 H A W .typed r _ is .0)) $
           rewrite ! 20 (λ (u : Val). ‵ (fat fullShare O′.mir l₇ 0 u)) (ap only (LL.tells O.the-type O′.the-laws r (w ∷ []) is)) refl $
           keep ! (7 ∷ 9 ∷ 10 ∷ 11 ∷ 34 ∷ 35 ∷ 32 ∷ 33 ∷ 30 ∷ 31 ∷ 28 ∷ 29 ∷ 26 ∷ 27 ∷ 24 ∷ 25 ∷ 22 ∷ 23 ∷ 20 ∷ 21 ∷ 18 ∷ 19 ∷ 16 ∷ 17 ∷ 14 ∷ 15 ∷ 12 ∷ 13 ∷ 1 ∷ 2 ∷ 4 ∷ 6 ∷ []) $
-          written-back W C Λ κ q b o γ Post _ _ _ l₀ l₁ l₇ (_, (_, _)) (_, (_, _)) (_, (_, _)) (_, (_, _)) (_, (_, _)) ((_, (_, _)) ∷ (_, (_, _)) ∷ (_, (_, _)) ∷ (_, (_, _)) ∷ [])
+          written-back W C Λ κ q b o γ Post _ _ I′.mir l₀ l₁ l₇ (_, (_, _)) (_, (_, _)) (_, (_, _)) (_, (_, _)) (_, (_, _)) ((_, (_, _)) ∷ (_, (_, _)) ∷ (_, (_, _)) ∷ (_, (_, _)) ∷ [])
           _ h (r .device) _ _ (of-rec r w is) (LL.lawful R.the-type R′.the-laws 𝓤 H A W .typed (rest r) _ (of-rest r w is) .0)
           (exits r _ (zs .1 .0) (zs .1 .1 .1 .0) e k l (of-rest r w is)))))))))))))))))))))))
 

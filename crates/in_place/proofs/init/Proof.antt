@@ -44,6 +44,7 @@ use denote.Exit.{yes}
 use Rattle.settings.specs.Plan.{asInit}
 use Rattle.settings.specs.Steps.{stepsFor}
 use Rattle.settings.specs.declared.Config.{Config}
+use Rattle.settings.proofs.InitAnswer.Laws as I′
 use Rattle.settings.proofs.Config as K
 use Rattle.settings.proofs.Config.Laws as K′
 use Rattle.bus.specs.Programs.{ran, onTape}
@@ -208,7 +209,7 @@ module _ {M : Type 1} (𝓤 : URA M) (H : Heap 𝓤) (A : Atoms 𝓤) (W : Given
           land ! (from ! (stop !)) (init ! 15 refl (LL.lawful O.the-type O′.the-laws 𝓤 H A W .typed r _ is .0)) $
           rewrite ! 15 (λ (u : Val). ‵ (fat fullShare O′.mir l₇ 0 u)) (ap only (LL.tells O.the-type O′.the-laws r (w ∷ []) is)) refl $
           keep ! (6 ∷ 8 ∷ 9 ∷ 10 ∷ 29 ∷ 30 ∷ 27 ∷ 28 ∷ 25 ∷ 26 ∷ 23 ∷ 24 ∷ 21 ∷ 22 ∷ 19 ∷ 20 ∷ 17 ∷ 18 ∷ 15 ∷ 16 ∷ 13 ∷ 14 ∷ 11 ∷ 12 ∷ 1 ∷ 2 ∷ 5 ∷ []) $
-          written-back W C Λ κ q b o γ Post _ _ _ l₀ l₁ l₇ (_, (_, _)) (_, (_, _)) (_, (_, _)) (_, (_, _)) (_, (_, _)) ((_, (_, _)) ∷ (_, (_, _)) ∷ [])
+          written-back W C Λ κ q b o γ Post _ _ I′.mir l₀ l₁ l₇ (_, (_, _)) (_, (_, _)) (_, (_, _)) (_, (_, _)) (_, (_, _)) ((_, (_, _)) ∷ (_, (_, _)) ∷ [])
           _ h (r .device) _ _ (of-rec r w is) (LL.lawful R.the-type R′.the-laws 𝓤 H A W .typed (rest r) _ (of-rest r w is) .0)
           (exits r _ (zs .1 .1 .1 .0) e l (of-rest r w is))))))))))))))))))))
 
