@@ -21,7 +21,7 @@ module _ {A B : Type 0} (P : B → Type 0) where
   always-after Q (ret a) f h g = g a h
   always-after Q (ask t k) f h g = λ o. always-after Q (k o) f (h o) g
 
-  always-bind : (p : Prog A) (f : A → Prog B) → ((a : A) → always P (f a)) → always P (bind p f)
+  pub always-bind : (p : Prog A) (f : A → Prog B) → ((a : A) → always P (f a)) → always P (bind p f)
   unfolding always bind
   always-bind (ret a) f g = g a
   always-bind (ask t k) f g = λ o. always-bind (k o) f g

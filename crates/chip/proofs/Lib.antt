@@ -6,6 +6,7 @@ pub mod Example
 pub mod Fed
 pub mod FirstPart
 pub mod Honest
+pub mod Logs
 pub mod Quits
 pub mod Raws
 pub mod RegisterBytes
@@ -17,3 +18,4 @@ mod Takes
 pub mod TapeBytes
 pub mod Uncut
 pub mod Untouched
+pub mod Wires

@@ -3,46 +3,16 @@ use crate::bench::Outcome;
 use bq769x0::BQ769x0;
 use bq769x0::setting::Init;
 use chip::Chip;
-use protection::range::OCDSCDRange;
-use settings::CalculatedValues;
 use settings::InitAnswer;
+use settings::told::Five;
 use units::MilliVolts;
 
-// An answer's number, 0 where accepted, and the figures with it.
-pub struct Six(pub u32, u32, u32, u32, u32, u32);
-
-fn range_number(range: OCDSCDRange) -> u32 {
-    match range {
-        OCDSCDRange::Lower => 0,
-        OCDSCDRange::Upper => 1,
-        OCDSCDRange::Unknown => 2,
-    }
+fn same_figures(a: Five, b: Five) -> bool {
+    (a.0 == b.0) & (a.1 == b.1) & (a.2 == b.2) & (a.3 == b.3) & (a.4 == b.4)
 }
 
-fn reported(v: CalculatedValues) -> Six {
-    let range = v.ocdscd_range_used;
-    Six(
-        0,
-        range_number(range),
-        v.scd_threshold.0,
-        v.ocd_threshold.0,
-        v.uv_threshold.0,
-        v.ov_threshold.0,
-    )
-}
-
-pub fn told(answer: InitAnswer) -> Six {
-    match answer {
-        InitAnswer::Ready(values) => reported(values),
-        InitAnswer::Refused(e) => {
-            let told = e.told();
-            Six(told.0 as u32, told.1 as u32, told.2, told.3, 0, 0)
-        }
-    }
-}
-
-fn same_answer(a: Six, b: Six) -> bool {
-    (a.0 == b.0) & (a.1 == b.1) & (a.2 == b.2) & (a.3 == b.3) & (a.4 == b.4) & (a.5 == b.5)
+fn same_answer(a: InitAnswer, b: InitAnswer) -> bool {
+    (a.number() == b.number()) & same_figures(a.figures(), b.figures())
 }
 
 fn same_cells(a: [MilliVolts; 15], b: [MilliVolts; 15]) -> bool {
@@ -88,7 +58,7 @@ fn same_init(a: Init, b: Init) -> bool {
     let b_answer = b.answer;
     let a_device = a.device;
     let b_device = b.device;
-    same_answer(told(a_answer), told(b_answer)) & same_record(a_device, b_device)
+    same_answer(a_answer, b_answer) & same_record(a_device, b_device)
 }
 
 pub fn same(a: Outcome, b: Outcome) -> bool {

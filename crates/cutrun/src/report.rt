@@ -28,7 +28,7 @@ fn left(run: Outcome) {
     let device = init.device;
     let chip = run.bench.chip;
     text::words(b": answer");
-    text::number(compare::told(answer).0 as u64);
+    text::number(answer.number() as u64);
     registers(chip);
     record(device);
 }

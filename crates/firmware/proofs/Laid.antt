@@ -8,10 +8,10 @@ use native.Mathlib.Omega.{arith}
 use lib.ListN.{length, set}
 use Rattle.frames.specs.Put.{put}
 use Rattle.frames.proofs.Put.{put-put, put-all, sets-put}
+use Rattle.settings.specs.declared.told.Five.{Five}
 use Rattle.job.specs.Encoding.{four}
 use Rattle.bus.specs.declared.Cursor.{Cursor}
 use Rattle.firmware.specs.Layout.{eight, laid}
-use Rattle.firmware.specs.declared.layout.Five.{Five}
 
 pub four-sets : (l : List ℕ) (at a b c d : ℕ) → at + 4 ≤ length l
     → set (set (set (set l at a) (at + 1) b) (at + 2) c) (at + 3) d ≡ put l at (a ∷ b ∷ c ∷ d ∷ [])

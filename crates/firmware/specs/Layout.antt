@@ -3,43 +3,18 @@
 -- Assumes nothing.
 use Prim.Native.Nat.{ℕ, _/_, _%_}
 use mathlib.Core.List.{List, _++_}
-use lib.IntN.{pos}
-use lib.ListN.{length, getD}
-use Rattle.signed.specs.Numbers.{asU32}
-use Rattle.refusals.specs.Refusal.{Answer, value, refused}
-use Rattle.protection.specs.declared.range.OCDSCDRange.{OCDSCDRange}
-use Rattle.protection.specs.declared.range.OCDSCDRange.the-variants as R
+use Rattle.refusals.specs.Refusal.{Answer}
 use Rattle.settings.specs.Plan.{Values}
+use Rattle.settings.specs.Told.{numberOf, figuresOf}
+use Rattle.settings.specs.declared.told.Five.{Five}
 use Rattle.job.specs.Encoding.{four}
 use Rattle.bus.specs.Programs.{Ran}
 use Rattle.bus.specs.declared.Cursor.{Cursor}
 use Rattle.bq769x0.specs.Record.{Left}
-use Rattle.firmware.specs.declared.layout.Five.{Five}
 
 -- the eight bytes of a number below 2^64
 unfoldable pub eight : ℕ → List ℕ
 eight n = four (n / 4294967296) ++ four (n % 4294967296)
-
--- 0 where accepted, else the refusal's
-abbrev pub numberOf : Answer Values → ℕ
-numberOf (value v) = 0
-numberOf (refused r) = r .number
-
-abbrev pub rangeNumber : OCDSCDRange → ℕ
-rangeNumber R.Lower = 0
-rangeNumber R.Upper = 1
-rangeNumber R.Unknown = 2
-
--- accepted: the range, SCD A, OCD A, UV mV, OV mV; refused: the count of the figures, and the first and the second, zero for one that is not there
-abbrev pub figuresOf : Answer Values → Five
-figuresOf (value v) = record { 0 = rangeNumber (v .range); 1 = v .scd; 2 = v .ocd; 3 = v .uv; 4 = v .ov }
-figuresOf (refused r) = record {
-  0 = length (r .figures);
-  1 = asU32 (getD (r .figures) 0 (pos 0));
-  2 = asU32 (getD (r .figures) 1 (pos 0));
-  3 = 0;
-  4 = 0;
-}
 
 unfoldable pub laid : Cursor → Five → List ℕ
 laid at five =

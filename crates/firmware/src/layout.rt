@@ -4,54 +4,9 @@ ghost use Prim.Native.Nat.{_+_, _≤_};
 ghost use lib.ListN.{length};
 ghost use Rattle.frames.specs.Put.{put};
 ghost use Rattle.job.specs.Encoding.{four};
-ghost use Rattle.settings.specs.Plan.{asInit};
-ghost use Rattle.firmware.specs.Layout.{eight, rangeNumber, figuresOf, numberOf, laid};
+ghost use Rattle.firmware.specs.Layout.{eight, laid};
 use bus::Cursor;
-use protection::range::OCDSCDRange;
-use settings::InitAnswer;
-
-// The five numbers after the positions.
-pub struct Five(pub u32, pub u32, pub u32, pub u32, pub u32);
-
-fn range_number(range: OCDSCDRange) -> u32
-    ensures { λ r. ⌜ r ≡ rangeNumber range ⌝ }
-{
-    match range {
-        OCDSCDRange::Lower => 0,
-        OCDSCDRange::Upper => 1,
-        OCDSCDRange::Unknown => 2,
-    }
-}
-
-pub(crate) fn figures(answer: InitAnswer) -> Five
-    ensures { λ r. ⌜ r ≡ figuresOf (asInit answer) ⌝ }
-{
-    match answer {
-        InitAnswer::Ready(v) => {
-            let range = v.ocdscd_range_used;
-            Five(
-                range_number(range),
-                v.scd_threshold.0,
-                v.ocd_threshold.0,
-                v.uv_threshold.0,
-                v.ov_threshold.0,
-            )
-        }
-        InitAnswer::Refused(e) => {
-            let told = e.told();
-            Five(told.1 as u32, told.2, told.3, 0, 0)
-        }
-    }
-}
-
-pub(crate) fn number(answer: InitAnswer) -> u8
-    ensures { λ r. ⌜ r ≡ numberOf (asInit answer) ⌝ }
-{
-    match answer {
-        InitAnswer::Ready(_) => 0,
-        InitAnswer::Refused(e) => e.number(),
-    }
-}
+use settings::told::Five;
 
 // Four bytes, high first.
 pub(crate) fn put4(out: &mut [u8], at: usize, n: u32)

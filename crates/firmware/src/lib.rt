@@ -8,9 +8,7 @@ ghost use Rattle.firmware.specs.JobInit.{asNoJob, asNoDevice, start, job
 ghost use Rattle.firmware.specs.Layout.{handed, asC};
 ghost use Rattle.firmware.specs.JobCells.{listed, jobCells, asList};
 use crate::cells::read_cells;
-use crate::layout::figures;
 use crate::layout::lay_out;
-use crate::layout::number;
 use bq769x0::BQ769x0;
 use bq769x0::record::NewAnswer;
 use bq769x0::setting::Init;
@@ -80,8 +78,8 @@ pub extern "C" fn bq769x0_init(job: &[u8], tape: &[u8], log: &mut [u8], out: &mu
     let done = init(job, tape, log);
     let answer = done.answer;
     let at = done.at;
-    lay_out(out, at, figures(answer));
-    number(answer)
+    lay_out(out, at, answer.figures());
+    answer.number()
 }
 
 // The init of a job, and one cell reading after it.
@@ -114,6 +112,6 @@ pub extern "C" fn bq769x0_init_cells(
     let done = init_cells(job, tape, log, list);
     let answer = done.answer;
     let at = done.at;
-    lay_out(out, at, figures(answer));
-    number(answer)
+    lay_out(out, at, answer.figures());
+    answer.number()
 }

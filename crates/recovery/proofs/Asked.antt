@@ -11,6 +11,7 @@ use Rattle.refusals.specs.Refusal.{Refusal, Answer, value, refused}
 use Rattle.settings.specs.Steps.{InMv}
 use Rattle.settings.specs.Plan.{Values}
 use Rattle.settings.specs.declared.Config.{Config}
+use Rattle.settings.proofs.Six.{plan-six}
 use Rattle.bus.specs.Fields.{if_then_else_}
 use Rattle.bus.specs.Programs.{Prog, ret, ask, bind, _orLeave_, _>>=_}
 use Rattle.bus.specs.Raw.{readBytes, writeRaw}
@@ -26,9 +27,8 @@ use Rattle.chip.specs.OnChip.{Wired, onWire, onChip}
 use Rattle.chip.proofs.Asks.{Asks, nothing, asks-bind, asks-call, asks-pure}
 use Rattle.chip.proofs.Quits.{Over, over, Quits, ends, Refuses, refuses-by, quits-bind, quits-call, quits-pure, quits-read, quits-write}
 use Rattle.chip.proofs.Fed.{read-short, write-short}
+use Rattle.chip.proofs.Logs.{log-bind, Logs, logs-ret, logs-proceed, logs-call, writeLog, logs-read, logs-write}
 use Rattle.recovery.specs.Runs.{enough}
-use Rattle.recovery.proofs.Left.{plan-six}
-use Rattle.recovery.proofs.Logs.{log-bind, Logs, logs-ret, logs-proceed, logs-call, writeLog, logs-read, logs-write}
 
 pub record Fine {A : Type 0} (Off : A → Type 0) (n : ℕ) (p : Prog A) : Type 0 where
   pub quits : Quits Off p

@@ -24,15 +24,15 @@ use Rattle.bq769x0.specs.Registers.{soundly}
 use Rattle.bq769x0.specs.Calibrate.{calibrate}
 use Rattle.bq769x0.specs.Init.{onward, onwardBy, counting, setting, initBy}
 use Rattle.bq769x0.specs.declared.BQ769x0.{BQ769x0}
+use Rattle.bq769x0.proofs.Speaks.{setup-sound, some-inputs}
 use Rattle.chip.specs.Devices.{Reached, onDevice}
 use Rattle.chip.specs.Chip.{withRegs, held}
 use Rattle.chip.specs.OnChip.{Matches, Wired, onWire, onChip}
 use Rattle.chip.specs.declared.Chip.{Chip}
 use Rattle.chip.proofs.Devices.{device-bind}
+use Rattle.chip.proofs.Wires.{read-any, write-any, through, through-ret}
 use Rattle.recovery.specs.Recovery.{calibrationOf, bytesOf, counted, six, chipLeft, marked, Leaves}
 use Rattle.recovery.proofs.Forms.{put-one, left-counted}
-use Rattle.bq769x0.proofs.Speaks.{setup-sound}
-use Rattle.recovery.proofs.Wires.{two-fit, read-any, write-any, through, through-ret}
 use Rattle.recovery.proofs.Left.{planned, six-all, six-few, same-setup, recalibrated, marks, matches-left, same-calibration, more-left, more-new}
 
 -- ---- the calibration
@@ -102,7 +102,7 @@ module _ (choose : Config → Answer InMv) (config : Config) (d : BQ769x0) (c : 
     unfolding counting
     counting-leaves values on w e =
         let s = setupOf done in
-        let read = read-any s (setup-sound d ok) w (matches-left m (six-new on e)) 5 1 (omega arith) (omega arith) (omega (arith, two-fit d ok)) in
+        let read = read-any s (setup-sound d ok) w (matches-left m (six-new on e)) 5 1 (omega arith) (omega arith) (omega (arith, some-inputs d ok)) in
         let e′ = read .0 ∙ e in
         through Kept _ _ (readBytes s 5 1) w (λ r q. six-new on e′) λ byte q.
         let w′ = onChip (readBytes s 5 1) w .device in
@@ -154,7 +154,7 @@ module _ (choose : Config → Answer InMv) (config : Config) (d : BQ769x0) (c : 
   unfolding initBy soundly
   stays d′ w l =
       let same = same-setup (l .recorded) in
-      let fit : 2 ≤ 2 * d′ .x = omega (arith, two-fit d ok, ap (λ (s : Setup). s .x) same) in
+      let fit : 2 ≤ 2 * d′ .x = omega (arith, some-inputs d ok, ap (λ (s : Setup). s .x) same) in
       let read = calibrate-any d′ (ap sound same ∙ setup-sound d ok) fit w (matches-left m l) in
       let w′ = onChip (calibrate d′) w .device in
       by-soundness d′ w (isSound d′) _ l

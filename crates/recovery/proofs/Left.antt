@@ -6,7 +6,6 @@ use mathlib.Core.List.{List}
 use Prim.Native.Nat.{ℕ, _≤_, max}
 use native.Mathlib.Omega.{arith}
 use lib.ListN.{length, take, getD}
-use lib.IntN.{ℤ}
 use Rattle.refusals.specs.Refusal.{Refusal, Answer, value, refused}
 use Rattle.adc.specs.Registers.{calibration}
 use Rattle.adc.specs.declared.transfer.AdcTransferFunction.{AdcTransferFunction}
@@ -16,7 +15,8 @@ use Rattle.settings.specs.Order.{_>>=_}
 use Rattle.settings.specs.Steps.{InMv}
 use Rattle.settings.specs.Plan.{Planned, planFor}
 use Rattle.settings.specs.declared.Config.{Config}
-use Rattle.settings.proofs.Accepted.{first, accepted}
+use Rattle.settings.proofs.Accepted.{first}
+use Rattle.settings.proofs.Six.{plan-six}
 use Rattle.bus.specs.declared.raw.Setup.{Setup}
 use Rattle.bq769x0.specs.Record.{accepts, setupOf, withCalibration, withShunt}
 use Rattle.bq769x0.specs.declared.BQ769x0.{BQ769x0}
@@ -25,10 +25,6 @@ use Rattle.chip.specs.OnChip.{Matches}
 use Rattle.chip.specs.declared.Chip.{Chip}
 use Rattle.recovery.specs.Recovery.{calibrationOf, planOn, bytesOf, six, chipLeft, Recorded, as-it-was, calibrated, marked, Leaves}
 use Rattle.recovery.proofs.Forms.{length-left, left-above, left-more}
-
-pub plan-six : (gain : ℕ) (offset : ℤ) (config : Config) (scd ocd : ℕ) (plan : Planned) → planFor gain offset config scd ocd ≡ value plan
-    → length (plan .regs) ≡ 6
-plan-six gain offset config scd ocd plan e = ap (λ (p : Planned). length (p .regs)) (sym (accepted gain offset config scd ocd e .1 .1))
 
 module _ (choose : Config → Answer InMv) (config : Config) (c : Chip) where
   -- the plan, once the steps are chosen

@@ -1,10 +1,8 @@
 mod Forms
-mod Wires
 mod Left
 mod Cut
 pub mod Whole
 pub mod Again
-mod Logs
 pub mod Asked
 pub mod ByLog
 pub mod EachRegister

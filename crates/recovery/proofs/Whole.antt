@@ -14,6 +14,7 @@ use Rattle.frames.proofs.Put.{length-put}
 use Rattle.settings.specs.Steps.{InMv}
 use Rattle.settings.specs.Plan.{Values, Planned, planFor}
 use Rattle.settings.specs.declared.Config.{Config}
+use Rattle.settings.proofs.Six.{plan-six}
 use Rattle.bus.specs.Programs.{Prog, ret, _orLeave_, _>>=_}
 use Rattle.bus.specs.Raw.{Done, sound, readBytes, writeRaw}
 use Rattle.bq769x0.specs.Record.{Left, leaves, leaving, isSound, setupOf, withCalibration, withShunt}
@@ -21,6 +22,7 @@ use Rattle.bq769x0.specs.Registers.{soundly}
 use Rattle.bq769x0.specs.Calibrate.{calibrate}
 use Rattle.bq769x0.specs.Init.{onward, onwardBy, counting, setting, initBy}
 use Rattle.bq769x0.specs.declared.BQ769x0.{BQ769x0}
+use Rattle.bq769x0.proofs.Speaks.{setup-sound, some-inputs}
 use Rattle.chip.specs.Devices.{Reached, reached, onDevice}
 use Rattle.chip.specs.Chip.{withRegs, held}
 use Rattle.chip.specs.OnChip.{Matches, Wired, uncut, onWire, onChip}
@@ -29,9 +31,7 @@ use Rattle.chip.proofs.Devices.{device-bind, went-on, went-off}
 use Rattle.chip.proofs.Uncut.{read-uncut, write-uncut}
 use Rattle.recovery.specs.Recovery.{calibrationOf, planOn, counted, regsLeft}
 use Rattle.recovery.proofs.Forms.{put-one}
-use Rattle.bq769x0.proofs.Speaks.{setup-sound}
-use Rattle.recovery.proofs.Wires.{two-fit}
-use Rattle.recovery.proofs.Left.{plan-six, planned}
+use Rattle.recovery.proofs.Left.{planned}
 
 -- a refused choice; a refused plan, of which the calibration is kept; and the six bytes, 05 and the mark
 abbrev pub ends : Config → BQ769x0 → Chip → Answer InMv → Answer Planned → Reached Wired (Left Values)
@@ -82,7 +82,7 @@ module _ (choose : Config → Answer InMv) (config : Config) (d : BQ769x0) (c : 
       pure-on _ _ _ (uncut c) plan e
       ∙ went-on onWire (writeRaw (setupOf d) 6 (plan .regs)) _ _ (uncut c) (uncut c′) tt
       (write-uncut (setupOf d) (setup-sound d ok) c m 6 (plan .regs) (omega arith) (omega arith) (omega arith) (omega arith))
-      ∙ counting-uncut (withShunt d′ (config .shunt)) (setup-sound d ok) (two-fit d ok) c′ m′ (plan .values)
+      ∙ counting-uncut (withShunt d′ (config .shunt)) (setup-sound d ok) (omega (arith, some-inputs d ok)) c′ m′ (plan .values)
       ∙ ap (λ (v : List ℕ). reached (leaves (value (plan .values)) (withShunt d′ (config .shunt))) (uncut (withRegs c (counted (put (c .regs) 6 v)))))
       (sym (take-all 6 (plan .regs) (omega arith)))
 
@@ -94,7 +94,7 @@ module _ (choose : Config → Answer InMv) (config : Config) (d : BQ769x0) (c : 
       (pure-on (choose config) _ _ (uncut c) steps e
       ∙ device-bind onWire (calibrate d) (onward (setting config steps)) (uncut c)
       ∙ ap (λ (r : Reached Wired (Left Done)). onChip (onward (setting config steps) (r .answer)) (r .device))
-      (calibrate-uncut d (setup-sound d ok) (two-fit d ok) c m)
+      (calibrate-uncut d (setup-sound d ok) (omega (arith, some-inputs d ok)) c m)
       ∙ setting-uncut steps (planOn choose config c) (sym (planned choose config c steps e _ refl)))
 
   pub whole : onChip (initBy choose d config) (uncut c) ≡ ends config d c (choose config) (planOn choose config c)

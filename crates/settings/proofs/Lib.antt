@@ -17,6 +17,7 @@ pub mod Places
 pub mod RangeMismatch
 pub mod ReadBack
 pub mod Shunt
+pub mod Six
 pub mod TripPoints
 pub mod Values
 pub mod WithinNumbers

@@ -5,3 +5,4 @@ pub mod Registers
 pub mod Plan
 pub mod Exactly
 pub mod Fields
+pub mod Told

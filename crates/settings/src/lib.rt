@@ -15,6 +15,7 @@ use units::MilliVolts;
 
 pub mod currents;
 pub mod setup;
+pub mod told;
 
 pub struct Config {
     pub shunt: MicroOhms,

@@ -2,14 +2,12 @@
 -- says done only with all of them. And of a `do` on any wire, what holds after its first call.
 -- Assumes nothing.
 use mathlib.Core.Path.{_≡_, refl, sym, ap, subst, _∙_}
-use mathlib.Core.Bool.{Bool, true, false, not}
+use mathlib.Core.Bool.{Bool, true, false}
 use mathlib.Core.List.{List}
 use mathlib.Core.Option.{Option, none, some}
 use Prim.Native.Nat.{ℕ, _+_, _*_, _≤_, _<_}
-use native.Mathlib.Omega.{arith}
 use lib.ListN.{length, take, replicate, length-replicate}
 use Rattle.refusals.specs.Refusal.{Refusal, Answer, value, refused, answering}
-use Rattle.settings.proofs.Values.{refused-not, same-value}
 use Rattle.frames.specs.Frames.{right, readFrame}
 use Rattle.frames.specs.Put.{put}
 use Rattle.bus.specs.Fields.{if_then_else_}
@@ -17,20 +15,13 @@ use Rattle.bus.specs.Transfers.{fault}
 use Rattle.bus.specs.Programs.{Prog, ret, _orLeave_, _>>=_}
 use Rattle.bus.specs.Raw.{Done, Read, sound, gives, refuses, plainly, whereRight, checkedly, readRaw, readBytes, writeRaw}
 use Rattle.bus.specs.declared.raw.Setup.{Setup}
-use Rattle.bq769x0.specs.Record.{isSound}
-use Rattle.bq769x0.specs.declared.BQ769x0.{BQ769x0}
-use Rattle.bq769x0.proofs.Speaks.{some-inputs}
 use Rattle.chip.specs.Devices.{Reached, reached, onDevice}
 use Rattle.chip.specs.Chip.{withRegs, held}
 use Rattle.chip.specs.OnChip.{Matches, Wired, next, onWire, onChip}
 use Rattle.chip.proofs.Devices.{device-bind, went-on, went-off}
 use Rattle.chip.proofs.Shows.{length-held, delivers}
 use Rattle.chip.proofs.FirstPart.{newBytes, new-few}
 use Rattle.chip.proofs.Raws.{judged, judged-right, reads, write-cut, write-leaves}
-
--- a sound record's device has inputs for two registers at a time
-pub two-fit : (d : BQ769x0) → isSound d ≡ true → 2 ≤ 2 * d .x
-two-fit d e = omega (arith, some-inputs d e)
 
 -- ---- a read
 cut-refused : (check : Bool) (address : ℕ) (buf bytes : List ℕ) → (r : Refusal) × (judged check address buf (fault bytes) .answer ≡ refused r)
@@ -64,10 +55,10 @@ module _ (s : Setup) (ok : sound s ≡ true) (w : Wired) (m : Matches s (w .chip
     exactly none bytes e =
         let same = length-held reg n (w .chip .regs) ∙ sym (length-replicate {A = ℕ} n 0) in
         let right = judged-right (s .check) (s .address) (replicate n 0) (held reg n (w .chip .regs)) same in
-        same-value (sym e ∙ ap answer right)
+        cc (sym e ∙ ap answer right)
     exactly (some j) bytes e =
         let off = cut-refused (s .check) (s .address) (replicate n 0) (take j (readFrame (s .check) (s .address) (held reg n (w .chip .regs)))) in
-        refused-not (sym (ap (λ (a : Answer Done). answering a (given n (some j) .bytes)) (off .1)) ∙ e)
+        cc (sym (ap (λ (a : Answer Done). answering a (given n (some j) .bytes)) (off .1)) ∙ e)
 
     pub read-any : (onChip (readBytes s reg n) w .device .chip ≡ w .chip)
         × ((bytes : List ℕ) → onChip (readBytes s reg n) w .answer ≡ value bytes → bytes ≡ held reg n (w .chip .regs))
@@ -82,7 +73,7 @@ module _ (s : Setup) (ok : sound s ≡ true) (w : Wired) (m : Matches s (w .chip
         → newBytes (s .check) cut bytes ≡ length bytes
     all-done none e x v = refl
     all-done (some j) e x v =
-        refused-not (sym (ap (λ (r : Reached Wired (Answer Done)). r .answer) (write-cut s ok w m reg bytes other room few most j e)) ∙ v)
+        cc (sym (ap (λ (r : Reached Wired (Answer Done)). r .answer) (write-cut s ok w m reg bytes other room few most j e)) ∙ v)
 
     pub write-any : (k : ℕ)
         × (k ≤ length bytes)
