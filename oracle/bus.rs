@@ -1,7 +1,6 @@
 //! The reply tape and the transfer log behind the bus traits the crate calls, and the refusals of a transfer: 14, 17, 16, 15.
+use crate::job::Job;
 use embedded_hal::blocking::i2c::{Write, WriteRead};
-
-const LOG: usize = 65536;
 
 /// A transfer as the crate asks for it: the bytes sent, the register first, and the count of bytes to be read.
 pub struct Transfer<'a> {
@@ -17,7 +16,10 @@ pub struct Bus<'a> {
     pub check: bool,
     pub tape: Vec<u8>,
     pub at: usize,
+    /// The log's fields since the start, and where in a log of what size the first of them stands.
     pub log: Vec<u8>,
+    pub log_from: usize,
+    pub log_size: usize,
     /// The number a transfer of this call was refused with. The crate hears of a fault, and the number is the call's answer.
     pub refused: Option<u8>,
     /// Whether the refusals of a transfer stand in front; without, a transfer that passes register FF is made.
@@ -27,7 +29,29 @@ pub struct Bus<'a> {
 
 impl<'a> Bus<'a> {
     pub fn new(check: bool, tape: &[u8]) -> Bus<'a> {
-        Bus { check, tape: tape.to_vec(), at: 0, log: Vec::new(), refused: None, guarded: true, feed: None }
+        let tape = tape.to_vec();
+        Bus { check, tape, at: 0, log: Vec::new(), log_from: 0, log_size: 65536, refused: None, guarded: true, feed: None }
+    }
+
+    /// A job's bus: from the start of an empty log, or as field 1E has it.
+    pub fn of(job: &Job) -> Bus<'a> {
+        let bus = Bus::new(job.check, &job.tape);
+        let Some(given) = &job.given else { return bus };
+        Bus { at: given.tape_at, log_from: given.log_at, log_size: given.log_size, ..bus }
+    }
+
+    /// How much of the log is used.
+    pub fn log_at(&self) -> usize {
+        self.log_from + self.log.len()
+    }
+
+    /// The log's bytes, each of which was EE.
+    pub fn whole_log(&self) -> Vec<u8> {
+        let mut whole = vec![0xEE; self.log_size];
+        if !self.log.is_empty() {
+            whole[self.log_from..self.log_at()].copy_from_slice(&self.log);
+        }
+        whole
     }
 
     /// The tape's field for this transfer: whether it faults, and its value.
@@ -39,13 +63,13 @@ impl<'a> Bus<'a> {
             return Err(14);
         }
         let entry = log_field(asked);
-        if self.log.len() + entry.len() > LOG {
+        if self.log.len() + entry.len() > self.log_size.saturating_sub(self.log_from) {
             return Err(17);
         }
         if let (true, Some(feed)) = (self.at == self.tape.len(), &mut self.feed) {
             self.tape.extend(feed(asked));
         }
-        if self.at == self.tape.len() {
+        if self.at >= self.tape.len() {
             return Err(16);
         }
         let (tag, value) = field(&self.tape[self.at..]).ok_or(15)?;

@@ -1,11 +1,17 @@
 // A job on the crate, behind the added refusals. Included once for each build of the crate, which is `bq` here.
-use crate::bus::{hex, lines, Bus};
-use crate::job::Job;
+use crate::bus::{lines, Bus};
+use crate::crates::printed::{end, numbers, unsound, Lent};
+use crate::job::{is_sound, Job, Kept};
 use bq::*;
 use std::panic::{catch_unwind, AssertUnwindSafe};
 
-/// What callrun prints for this job.
+/// What callrun prints for this job, or staterun: 9 in front of each call on a record that is not sound.
 pub fn run(job: &Job, bus: &mut Bus) -> String {
+    if let Some(given) = &job.given {
+        if !is_sound(job, &given.kept) {
+            return unsound(job, &given.kept, bus);
+        }
+    }
     match job.x {
         5 => on(BQ769x0::<5>::new(job.address, job.cells), job, bus),
         10 => on(BQ769x0::<10>::new(job.address, job.cells), job, bus),
@@ -24,8 +30,11 @@ where
         return "refused 11\n".to_string();
     }
     let mut running = Running { device, job, bus };
+    if let Some(given) = &job.given {
+        running.keep(&given.kept);
+    }
     let calls: String = job.calls.iter().map(|(tag, value)| running.call(*tag, value)).collect();
-    calls + &running.record()
+    calls + &end(job, &running.kept(), running.bus)
 }
 
 struct Running<'a, 'b, const X: usize> {
@@ -43,9 +52,8 @@ where
     fn call(&mut self, tag: u8, value: &[u8]) -> String {
         let from = self.bus.log.len();
         self.bus.refused = None;
-        let count = if tag == 0x32 { u16::from_be_bytes([value[1], value[2]]) } else { 0 };
-        let mut data = vec![0xAA; count as usize];
-        let answer = catch_unwind(AssertUnwindSafe(|| self.answer(tag, value, &mut data)));
+        let mut lent = Lent::new(tag, value);
+        let answer = catch_unwind(AssertUnwindSafe(|| self.answer(tag, value, &mut lent)));
         let line = match (self.bus.refused, answer) {
             (_, Err(_)) => "panic".to_string(),
             (Some(number), Ok(Ok(line))) => format!("{line} after a transfer refused {number}"),
@@ -53,28 +61,32 @@ where
             (None, Ok(Ok(line))) => line,
             (None, Ok(Err(number))) => format!("refused {number}"),
         };
-        let data = if tag == 0x32 { format!("data{}\n", hex(&data)) } else { String::new() };
-        lines(&self.bus.log[from..]) + &line + "\n" + &data
+        lines(&self.bus.log[from..]) + &line + "\n" + &lent.line(tag, self.job)
     }
 
-    fn record(&self) -> String {
+    fn keep(&mut self, kept: &Kept) {
+        let cells = std::array::from_fn(|i| MilliVolts(kept.cells[i]));
+        self.device.keep(kept.initialised, kept.gain, kept.offset, MicroOhms(kept.shunt), cells);
+    }
+
+    /// The record. Of the fifteen cells the crate has the first X; no call changes the rest.
+    fn kept(&self) -> Kept {
         let (initialised, shunt, cells) = self.device.kept();
-        let mut text = format!("record {X} {} {} {}", self.job.cells, self.job.address, self.job.check as u8);
-        text += &format!(" {} {} {} {}", self.device.adc_gain(), self.device.adc_offset(), initialised as u8, shunt.0);
-        for i in 0..15 {
-            text += &format!(" {}", cells.get(i).map_or(0, |cell| cell.0));
+        let mut all = self.job.given.as_ref().map_or([0; 15], |given| given.kept.cells);
+        for (place, cell) in all.iter_mut().zip(cells) {
+            *place = cell.0;
         }
-        text + &format!(" tape {} log {}\n", self.bus.at, self.bus.log.len())
+        Kept { initialised, gain: self.device.adc_gain(), offset: self.device.adc_offset(), shunt: shunt.0, cells: all }
     }
 
     /// The line of an answer, or a refusal's number and figures.
-    fn answer(&mut self, tag: u8, value: &[u8], data: &mut [u8]) -> Result<String, String> {
+    fn answer(&mut self, tag: u8, value: &[u8], lent: &mut Lent) -> Result<String, String> {
         let (device, bus) = (&mut self.device, &mut *self.bus);
         let done = |()| "done".to_string();
         let flag = value == [1];
         match tag {
             0x21 => return self.init(value),
-            0x22 => return self.cells(value[0]),
+            0x22 => return self.cells(&mut lent.list),
             0x23 => return self.current(),
             0x24 => device.voltage(bus).map(|v| format!("voltage {}", v.0)),
             0x25 => device.temperature(bus).map(degrees),
@@ -90,7 +102,7 @@ where
             0x2F => device.set_temperature_source(bus, source(flag)).map(done),
             0x30 => device.temperature_source(bus).map(|s| format!("source {}", source_name(s))),
             0x31 => device.coulomb_counter_mode(bus, mode(value[0])).map(done),
-            0x32 => device.read_raw(bus, value[0], data).map(done),
+            0x32 => device.read_raw(bus, value[0], &mut lent.data).map(done),
             _ => device.write_raw(bus, value[0], &value[1..]).map(done),
         }
         .map_err(number)
@@ -109,13 +121,15 @@ where
         self.device.init(self.bus, &config).map(|found| set_up(&found)).map_err(number)
     }
 
-    /// 19 in front, where the crate would not answer 4.
-    fn cells(&mut self, room: u8) -> Result<String, String> {
-        if self.device.is_initialized() && room < self.job.cells {
+    /// 19 in front, where the crate would not answer 4. The crate's own list goes into the lent one.
+    fn cells(&mut self, list: &mut [u32]) -> Result<String, String> {
+        if self.device.is_initialized() && list.len() < self.job.cells as usize {
             return Err("19".to_string());
         }
         let cells = self.device.cell_voltages(self.bus).map_err(number)?;
-        Ok(cells.iter().fold("cells".to_string(), |text, cell| text + &format!(" {}", cell.0)))
+        let cells: Vec<u32> = cells.iter().map(|cell| cell.0).collect();
+        list[..cells.len()].copy_from_slice(&cells);
+        Ok(format!("cells{}", numbers(&cells)))
     }
 
     /// 4 in front.

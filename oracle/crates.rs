@@ -2,6 +2,9 @@
 use crate::bus::Bus;
 use crate::job::{parse, Job};
 
+#[path = "printed.rs"]
+pub mod printed;
+
 pub mod plain_checked {
     use bq_plain_checked as bq;
     include!("calls.rs");
@@ -19,7 +22,7 @@ pub mod check_wrapping {
     include!("calls.rs");
 }
 
-/// What callrun prints for a job, by the build with overflow checks or the one without.
+/// What callrun or staterun prints for a job, by the build with overflow checks or the one without.
 pub fn run(job: &Job, bus: &mut Bus, overflow_checks: bool) -> String {
     match (job.check, overflow_checks) {
         (false, true) => plain_checked::run(job, bus),
@@ -29,8 +32,8 @@ pub fn run(job: &Job, bus: &mut Bus, overflow_checks: bool) -> String {
     }
 }
 
-/// What callrun prints for these bytes.
+/// What callrun prints for these bytes, or staterun where they are its own.
 pub fn text(bytes: &[u8], overflow_checks: bool) -> String {
     let Some(job) = parse(bytes) else { return "refused 15\n".to_string() };
-    run(&job, &mut Bus::new(job.check, &job.tape), overflow_checks)
+    run(&job, &mut Bus::of(&job), overflow_checks)
 }

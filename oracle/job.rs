@@ -1,7 +1,25 @@
-//! A job of callrun: the device, the calls, the tape.
+//! A job of callrun: the device, the calls, the tape; or of staterun, which has field 1E ahead.
 use crate::bus::field;
 
+/// What a record has beside field 20's values.
+pub struct Kept {
+    pub initialised: bool,
+    pub gain: u16,
+    pub offset: i8,
+    pub shunt: u32,
+    pub cells: [u32; 15],
+}
+
+/// What field 1E gives.
+pub struct Given {
+    pub kept: Kept,
+    pub log_size: usize,
+    pub tape_at: usize,
+    pub log_at: usize,
+}
+
 pub struct Job {
+    pub given: Option<Given>,
     pub x: u8,
     pub cells: u8,
     pub address: u8,
@@ -10,11 +28,43 @@ pub struct Job {
     pub tape: Vec<u8>,
 }
 
+/// Whether these bytes are for staterun: they begin with field 1E's tag.
+pub fn is_given(bytes: &[u8]) -> bool {
+    bytes.first() == Some(&0x1E)
+}
+
 /// The job these bytes are, of which the first 32,768 count; none if anything else stands ahead of the tape.
 pub fn parse(bytes: &[u8]) -> Option<Job> {
     let bytes = &bytes[..bytes.len().min(32768)];
+    if !is_given(bytes) {
+        return parse_calls(bytes);
+    }
+    let (_, value) = field(bytes)?;
+    let given = parse_given(value)?;
+    let job = parse_calls(&bytes[3 + value.len()..])?;
+    Some(Job { given: Some(given), ..job })
+}
+
+fn parse_given(value: &[u8]) -> Option<Given> {
+    let value: &[u8; 88] = value.try_into().ok()?;
+    let long = |at: usize| u64::from_be_bytes(value[at..at + 8].try_into().unwrap()) as usize;
+    let word = |at: usize| u32::from_be_bytes(value[at..at + 4].try_into().unwrap());
+    if value[0] > 1 || word(68) > 65536 {
+        return None;
+    }
+    let kept = Kept {
+        initialised: value[0] == 1,
+        gain: u16::from_be_bytes([value[1], value[2]]),
+        offset: value[3] as i8,
+        shunt: word(4),
+        cells: std::array::from_fn(|i| word(8 + 4 * i)),
+    };
+    Some(Given { kept, log_size: word(68) as usize, tape_at: long(72), log_at: long(80) })
+}
+
+fn parse_calls(bytes: &[u8]) -> Option<Job> {
     let (0x20, &[x, cells, address, check @ 0..=1]) = field(bytes)? else { return None };
-    let mut job = Job { x, cells, address, check: check == 1, calls: Vec::new(), tape: Vec::new() };
+    let mut job = Job { given: None, x, cells, address, check: check == 1, calls: Vec::new(), tape: Vec::new() };
     let mut left = &bytes[7..];
     loop {
         let (tag, value) = field(left)?;
@@ -42,4 +92,18 @@ fn lawful(tag: u8, value: &[u8]) -> bool {
         (0x23 | 0x24 | 0x25 | 0x27 | 0x28 | 0x2C | 0x2D | 0x30, v) => v.is_empty(),
         _ => false,
     }
+}
+
+/// Whether a record is sound, as 01 has it.
+pub fn is_sound(job: &Job, kept: &Kept) -> bool {
+    let counts = match job.x {
+        5 => 3..=5,
+        10 => 6..=10,
+        15 => 9..=15,
+        _ => return false,
+    };
+    let made = counts.contains(&job.cells) && job.address <= 127;
+    let calibrated = if kept.gain == 0 { kept.offset == 0 } else { (365..=396).contains(&kept.gain) };
+    let marked = if kept.initialised { kept.shunt != 0 && kept.gain != 0 } else { kept.shunt == 0 };
+    made && calibrated && kept.shunt <= 2_147_483_647 && marked
 }

@@ -1,11 +1,14 @@
 //! Jobs by the throw of a seeded dice: the tape is written while the crate runs the calls, then some jobs are damaged.
-use crate::bus::{field_of, Bus, Transfer};
+use crate::bus::{field, field_of, Bus, Transfer};
 use crate::crates::run;
-use crate::job::parse;
+use crate::job::{parse, Given, Kept};
 use crc_any::CRCu8;
 
 /// Past the 32,768 bytes that count, and little enough for a pipe to take whole.
 const LONGEST: usize = 40_000;
+
+/// Where field 1E, ahead of a job, has the log's size.
+const LOG_SIZE_AT: usize = 3 + 68;
 
 pub struct Dice(pub u64);
 
@@ -42,28 +45,159 @@ impl Dice {
 /// Registers 50, 51 and 59, as the job's chip has them.
 type Calibration = [u8; 3];
 
-pub fn job(dice: &mut Dice) -> Vec<u8> {
+/// The job of this index: for callrun or for staterun.
+pub fn job(seed: u64, index: u64, given: bool) -> Vec<u8> {
+    let dice = &mut Dice(Dice(Dice(seed).any() ^ index).any());
+    if given { given_job(dice) } else { calls_job(dice) }
+}
+
+fn calls_job(dice: &mut Dice) -> Vec<u8> {
     if dice.below(200) == 0 {
         let length = dice.below(40);
         return dice.bytes(length);
     }
     let device = device(dice);
     let chip = [dice.byte(), dice.byte(), dice.byte()];
+    let head = calls(dice, device, &chip, 75);
+    let bytes = with_tape(dice, head, chip);
+    damaged(dice, bytes)
+}
+
+/// A job behind field 1E, on a tape that may have other bytes ahead.
+fn given_job(dice: &mut Dice) -> Vec<u8> {
+    let mut device = device(dice);
+    let chip = [dice.byte(), dice.byte(), dice.byte()];
+    let mut kept = kept(dice);
+    if dice.percent(20) {
+        spoil(dice, &mut device, &mut kept);
+    }
+    let before = if dice.percent(70) { 0 } else { dice.below(12) };
+    let mut value = given_value(&given(dice, kept, before));
+    if dice.percent(1) {
+        value[0] = dice.byte();
+    }
+    let mut head = field_of(0x1E, &value);
+    head.extend(calls(dice, device, &chip, 20));
+    head.extend(dice.bytes(before));
+    let mut bytes = with_tape(dice, head, chip);
+    if dice.percent(60) {
+        tighten(dice, &mut bytes);
+    }
+    damaged(dice, bytes)
+}
+
+/// A sound record: as new, calibrated, or set up.
+fn kept(dice: &mut Dice) -> Kept {
+    let cells = std::array::from_fn(|_| if dice.percent(50) { dice.any() as u32 } else { dice.pick(&[0, 1, 4000, u32::MAX]) });
+    let gain = if dice.percent(20) { dice.pick(&[365, 396]) } else { 365 + dice.below(32) as u16 };
+    let offset = dice.byte() as i8;
+    let shunt = match dice.below(10) {
+        0 => return Kept { initialised: false, gain: 0, offset: 0, shunt: 0, cells },
+        1..=2 => 0,
+        3 => dice.pick(&[1, 2_147_483_647]),
+        4 => 1 + dice.below(2_147_483_647) as u32,
+        _ => 1 + dice.below(10_000) as u32,
+    };
+    Kept { initialised: shunt != 0, gain, offset, shunt, cells }
+}
+
+/// A record made unsound, mostly, in one place.
+fn spoil(dice: &mut Dice, device: &mut [u8; 4], kept: &mut Kept) {
+    match dice.below(12) {
+        0 => device[0] = dice.byte(),
+        1 => device[1] = dice.byte(),
+        2 => device[2] = dice.pick(&[127, 128, 255]),
+        3 => kept.gain = dice.pick(&[364, 397]),
+        4 => kept.gain = dice.any() as u16,
+        5 => kept.gain = 0,
+        6 => (kept.gain, kept.offset) = (0, 0),
+        7 => (kept.initialised, kept.gain, kept.shunt) = (false, 0, 0),
+        8 => kept.shunt = dice.pick(&[2_147_483_648, u32::MAX]),
+        9 => kept.shunt = 0,
+        10 => kept.shunt = dice.any() as u32,
+        _ => kept.initialised = !kept.initialised,
+    }
+}
+
+/// A log and both positions with the record; the tape's replies start at `ready`.
+fn given(dice: &mut Dice, kept: Kept, ready: usize) -> Given {
+    let used = if dice.percent(50) { 0 } else { dice.below(40) };
+    let room = if dice.percent(20) { dice.below(60) } else { 300 };
+    let log_size = match dice.below(200) {
+        0 => dice.pick(&[65_535, 65_536, 65_537, 0xFFFF_FFFF]),
+        1 => dice.below(70_000),
+        _ => used + room,
+    };
+    let log_at = if dice.percent(5) { place(dice, log_size) } else { used };
+    Given { kept, log_size, tape_at: place(dice, ready), log_at }
+}
+
+/// The value of field 1E that gives this.
+fn given_value(given: &Given) -> Vec<u8> {
+    let kept = &given.kept;
+    let mut value = vec![kept.initialised as u8];
+    value.extend(kept.gain.to_be_bytes());
+    value.push(kept.offset as u8);
+    value.extend(kept.shunt.to_be_bytes());
+    value.extend(kept.cells.iter().flat_map(|cell| cell.to_be_bytes()));
+    value.extend((given.log_size as u32).to_be_bytes());
+    value.extend((given.tape_at as u64).to_be_bytes());
+    value.extend((given.log_at as u64).to_be_bytes());
+    value
+}
+
+/// A log that ends where the field of one of its transfers does, or a byte ahead.
+fn tighten(dice: &mut Dice, bytes: &mut [u8]) {
+    let Some(job) = parse(bytes) else { return };
+    let mut bus = Bus::of(&job);
+    run(&job, &mut bus, true);
+    let (mut ends, mut end) = (Vec::new(), 0);
+    while let Some((_, value)) = field(&bus.log[end..]) {
+        end += 3 + value.len();
+        ends.push(bus.log_from + end);
+    }
+    if !ends.is_empty() {
+        let size = dice.pick(&ends) - dice.below(2);
+        bytes[LOG_SIZE_AT..LOG_SIZE_AT + 4].copy_from_slice(&(size as u32).to_be_bytes());
+    }
+}
+
+/// Mostly this place; or one near it, or far off.
+fn place(dice: &mut Dice, place: usize) -> usize {
+    match dice.below(20) {
+        0 => dice.below(place + 20),
+        1 => place + 1,
+        2 => dice.pick(&[1 << 16, 1 << 32, 1 << 63, usize::MAX - 6, usize::MAX]),
+        _ => place,
+    }
+}
+
+/// Field 20, call fields, 3F; the first call is an init in so many of a hundred.
+fn calls(dice: &mut Dice, device: [u8; 4], chip: &Calibration, inits: usize) -> Vec<u8> {
     let mut bytes = field_of(0x20, &device);
     let count = if dice.below(2000) == 0 { 1000 + dice.below(6000) } else { dice.below(9) };
     for i in 0..count {
         let tag = match dice.below(10) {
-            _ if i == 0 && dice.percent(75) => 0x21,
+            _ if i == 0 && dice.percent(inits) => 0x21,
             0 => 0x22,
             1 => 0x23,
             _ => 0x21 + dice.below(19) as u8,
         };
-        let value = call(dice, tag, device[0] as usize, &chip);
+        let value = call(dice, tag, device[0] as usize, chip);
         bytes.extend(field_of(tag, &value));
     }
     bytes.extend([0x3F, 0, 0]);
+    bytes
+}
+
+fn with_tape(dice: &mut Dice, mut bytes: Vec<u8>, chip: Calibration) -> Vec<u8> {
     let tape = tape(dice, &bytes, chip);
     bytes.extend(tape);
+    bytes
+}
+
+/// Some jobs damaged, and none too long.
+fn damaged(dice: &mut Dice, mut bytes: Vec<u8>) -> Vec<u8> {
     if dice.percent(12) {
         damage(dice, &mut bytes);
     }
@@ -193,8 +327,9 @@ struct Replies<'a> {
     written: Vec<u8>,
 }
 
-fn tape(dice: &mut Dice, head: &[u8], chip: Calibration) -> Vec<u8> {
-    let Some(job) = parse(head) else { return dice.bytes(6) };
+/// What the tape of these bytes goes on with.
+fn tape(dice: &mut Dice, bytes: &[u8], chip: Calibration) -> Vec<u8> {
+    let Some(job) = parse(bytes) else { return dice.bytes(6) };
     let course = match dice.below(10) {
         0..=4 => Course::Clean,
         5..=7 => Course::OneAt(1 + dice.below(12)),
@@ -202,10 +337,10 @@ fn tape(dice: &mut Dice, head: &[u8], chip: Calibration) -> Vec<u8> {
     };
     let mut replies = Replies { dice, check: job.check, chip, course, made: 0, written: Vec::new() };
     let mut feed = |asked: &Transfer| replies.field(asked);
-    let mut bus = Bus::new(job.check, &[]);
+    let mut bus = Bus::of(&job);
     bus.feed = Some(&mut feed);
     run(&job, &mut bus, true);
-    bus.tape
+    bus.tape.split_off(job.tape.len())
 }
 
 impl Replies<'_> {

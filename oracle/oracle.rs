@@ -1,4 +1,5 @@
-//! Reads a job of callrun from standard input and prints what the crate makes of it; with the argument `wrapping` built without overflow checks.
+//! Reads a job of callrun or staterun from standard input and prints what the crate makes of it; with the argument `wrapping` built without
+//! overflow checks.
 #![allow(incomplete_features)]
 #![feature(generic_const_exprs)]
 mod bus;

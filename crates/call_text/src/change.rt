@@ -2,58 +2,42 @@
 ghost use Prim.Native.Nat.{_≤_};
 use crate::lines;
 use crate::state::State;
-use bq769x0::BQ769x0;
-use bus::Cursor;
 use bus::raw::RawAnswer;
 use job::ConfigAnswer;
-use protection::range::OCDSCDRange;
-use settings::CalculatedValues;
 use settings::Config;
 use settings::InitAnswer;
+use settings::told::Five;
 
-pub(crate) fn init(
-    value: &[u8],
-    device: BQ769x0,
-    tape: &[u8],
-    log: &mut [u8],
-    at: Cursor,
-) -> State {
+pub(crate) fn init(value: &[u8], state: State, tape: &[u8], log: &mut [u8]) -> State {
     let parsed = job::parse_config(value);
     match parsed {
-        ConfigAnswer::Wanted(config) => init_by(config, device, tape, log, at),
-        ConfigAnswer::Refused(_) => State { device, at },
+        ConfigAnswer::Wanted(config) => init_by(config, state, tape, log),
+        ConfigAnswer::Refused(_) => state,
     }
 }
 
-fn init_by(config: Config, device: BQ769x0, tape: &[u8], log: &mut [u8], at: Cursor) -> State {
+fn init_by(config: Config, state: State, tape: &[u8], log: &mut [u8]) -> State {
+    let device = state.device;
+    let at = state.at;
     let done = device.init(config, tape, log, at);
     let answer = done.answer;
     let device = done.device;
     let next = done.at;
     lines::transfers(log, at, next);
     match answer {
-        InitAnswer::Ready(values) => ready(values),
+        InitAnswer::Ready(_) => ready(answer.figures()),
         InitAnswer::Refused(e) => lines::refused(e),
     }
-    State { device, at: next }
+    state.after(device, next)
 }
 
-fn range_number(range: OCDSCDRange) -> u64 {
-    match range {
-        OCDSCDRange::Lower => 0,
-        OCDSCDRange::Upper => 1,
-        OCDSCDRange::Unknown => 2,
-    }
-}
-
-fn ready(v: CalculatedValues) {
-    let range = v.ocdscd_range_used;
+fn ready(five: Five) {
     text::ready(
-        range_number(range),
-        v.scd_threshold.0 as u64,
-        v.ocd_threshold.0 as u64,
-        v.uv_threshold.0 as u64,
-        v.ov_threshold.0 as u64,
+        five.0 as u64,
+        five.1 as u64,
+        five.2 as u64,
+        five.3 as u64,
+        five.4 as u64,
     );
 }
 
@@ -64,30 +48,29 @@ fn size(n: u8) -> usize
 }
 
 // The lent list is as long as the value says.
-pub(crate) fn cells(
-    value: &[u8],
-    device: BQ769x0,
-    tape: &[u8],
-    log: &mut [u8],
-    at: Cursor,
-) -> State {
+pub(crate) fn cells(value: &[u8], state: State, tape: &[u8], log: &mut [u8]) -> State {
     if value.len() != 1 {
-        return State { device, at };
+        return state;
     }
     let n = size(value[0]);
     let mut list = [4_294_967_295u32; 255];
-    cells_into(&mut list[..n], device, tape, log, at)
+    cells_into(&mut list[..n], state, tape, log)
 }
 
-fn cells_into(list: &mut [u32], device: BQ769x0, tape: &[u8], log: &mut [u8], at: Cursor) -> State {
+fn cells_into(list: &mut [u32], state: State, tape: &[u8], log: &mut [u8]) -> State {
+    let device = state.device;
+    let at = state.at;
     let read = measuring::cells::cell_voltages(device, list, tape, log, at);
     let answer = read.answer;
     let device = read.device;
     let next = read.at;
     lines::transfers(log, at, next);
     match answer {
-        RawAnswer::Done => lines::cells(list, device.cell_count as usize),
+        RawAnswer::Done => lines::numbers(b"cells", list, device.cell_count as usize),
         RawAnswer::Refused(e) => lines::refused(e),
     }
-    State { device, at: next }
+    if state.lists {
+        lines::numbers(b"list", list, 255);
+    }
+    state.after(device, next)
 }

@@ -8,6 +8,7 @@ use calls::HeadAnswer;
 use calls::Heading;
 
 mod change;
+pub mod given;
 mod lines;
 mod measure;
 mod registers;
@@ -35,18 +36,28 @@ fn make(input: &[u8], heading: Heading) {
 }
 
 fn run(input: &[u8], tape_at: usize, device: BQ769x0) {
+    let at = Cursor { tape: 0, log: 0 };
+    let state = State {
+        device,
+        at,
+        lists: false,
+    };
+    let mut log = [0u8; 65536];
+    over(input, tape_at, state, &mut log);
+}
+
+// The calls on a record, a log and a cursor, and what they leave.
+fn over(input: &[u8], tape_at: usize, state: State, log: &mut [u8]) {
     if input.len() < tape_at {
         return;
     }
-    let mut log = [0u8; 65536];
-    let state = each(input, &input[tape_at..], device, &mut log);
-    state.print();
+    let left = each(input, &input[tape_at..], state, log);
+    left.print();
 }
 
 // The calls in turn; one record, one tape, one log.
-fn each(input: &[u8], tape: &[u8], device: BQ769x0, log: &mut [u8]) -> State {
-    let at = Cursor { tape: 0, log: 0 };
-    let mut state = State { device, at };
+fn each(input: &[u8], tape: &[u8], state: State, log: &mut [u8]) -> State {
+    let mut state = state;
     let mut place = calls::CALLS_AT;
     while place < input.len() {
         let found = calls::field_at(input, place);
@@ -68,14 +79,14 @@ fn each(input: &[u8], tape: &[u8], device: BQ769x0, log: &mut [u8]) -> State {
 
 // Only setting up and reading the cells change the record.
 fn call(tag: u8, value: &[u8], state: State, tape: &[u8], log: &mut [u8]) -> State {
-    let device = state.device;
-    let at = state.at;
     match tag {
-        0x21 => change::init(value, device, tape, log, at),
-        0x22 => change::cells(value, device, tape, log, at),
+        0x21 => change::init(value, state, tape, log),
+        0x22 => change::cells(value, state, tape, log),
         _ => {
-            let at = other(tag, value, device, tape, log, at);
-            State { device, at }
+            let device = state.device;
+            let at = state.at;
+            let next = other(tag, value, device, tape, log, at);
+            state.after(device, next)
         }
     }
 }

@@ -42,8 +42,9 @@ fn wide(n: u32) -> u64 {
     n as u64
 }
 
-pub(crate) fn cells(list: &[u32], count: usize) {
-    text::words(b"cells");
+// The first `count` of a list, or all where it has no more.
+pub(crate) fn numbers(name: &[u8], list: &[u32], count: usize) {
+    text::words(name);
     let mut i = 0;
     while i < list.len() {
         if i < count {
@@ -54,8 +55,8 @@ pub(crate) fn cells(list: &[u32], count: usize) {
     text::words(b"\n");
 }
 
-pub(crate) fn data(bytes: &[u8]) {
-    text::words(b"data");
+pub(crate) fn bytes(name: &[u8], bytes: &[u8]) {
+    text::words(name);
     let mut i = 0;
     while i < bytes.len() {
         text::hex(bytes[i]);

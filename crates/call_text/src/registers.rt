@@ -118,7 +118,7 @@ fn read_into(
 ) -> Cursor {
     let read = device.read_raw(reg, data, tape, log, at);
     let next = lines::raw(read, log, at);
-    lines::data(data);
+    lines::bytes(b"data", data);
     next
 }
 

@@ -6,6 +6,7 @@ use units::MilliVolts;
 pub(crate) struct State {
     pub device: BQ769x0,
     pub at: Cursor,
+    pub lists: bool, // whether a cell call prints the whole of its list too
 }
 
 fn bit(b: bool) -> u64 {
@@ -26,6 +27,14 @@ fn cells(cells: [MilliVolts; 15]) {
 }
 
 impl State {
+    pub(crate) fn after(self, device: BQ769x0, at: Cursor) -> State {
+        State {
+            device,
+            at,
+            lists: self.lists,
+        }
+    }
+
     pub(crate) fn print(self) {
         let device = self.device;
         let at = self.at;

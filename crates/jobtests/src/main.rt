@@ -1,5 +1,6 @@
 // Reads jobs as text from standard input, and prints each one's name and what it prints: a line from # names a job as callrun reads it, one from
-// ## a job as initrun reads it; the lines below it are its bytes, two hex digits each, in upper case, with blanks between or none.
+// ## a job as initrun reads it, one from ### a job as staterun reads it; the lines below it are its bytes, two hex digits each, in upper case, with
+// blanks between or none.
 ghost use Prim.Native.Nat.{_≤_, _<_};
 ghost use lib.ListN.{length};
 
@@ -82,22 +83,30 @@ fn line_end(input: &[u8], i: usize) -> usize
     end
 }
 
-// 1 where a line names a job of calls, 2 where one of an init, else as before.
+fn is_mark(line: &[u8], i: usize) -> bool {
+    if line.len() <= i {
+        return false;
+    }
+    line[i] == 35
+}
+
+// 1 where a line names a job of calls, 2 where one of an init, 3 where one with its record, else as before.
 fn kind_of(line: &[u8], before: u8) -> u8 {
-    if line.len() < 2 {
+    if !is_mark(line, 0) {
         return before;
     }
-    if line[0] != 35 {
-        return before;
+    if !is_mark(line, 1) {
+        return 1;
     }
-    if line[1] == 35 { 2 } else { 1 }
+    if is_mark(line, 2) { 3 } else { 2 }
 }
 
 fn print(kind: u8, job: &[u8]) {
-    if kind == 1 {
-        call_text::print(job);
-    } else if kind == 2 {
-        init_text::print(job);
+    match kind {
+        1 => call_text::print(job),
+        2 => init_text::print(job),
+        3 => call_text::given::print(job),
+        _ => {}
     }
 }
 

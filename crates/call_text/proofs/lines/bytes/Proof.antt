@@ -1,18 +1,15 @@
--- `call_text::lines::data` ends. Assumes nothing.
+-- `call_text::lines::bytes` ends. Assumes nothing.
 use Prim.Native.Nat.{_-_}
 use lib.ListN.{length}
 use borrow.Author.Needs.{needs}
-use Rattle.call_text.proofs.lines.data.Statement.{statement}
-use Rattle.call_text.proofs.lines.data.Tie as tie
+use Rattle.call_text.proofs.lines.bytes.Statement.{statement}
+use Rattle.call_text.proofs.lines.bytes.Tie as tie
 
 abbrev Inv-loop : tie.InvT-loop
-Inv-loop bytes i₀ t4 i = Unit {0}
+Inv-loop name bytes i₀ t4 i = Unit {0}
 
 abbrev μ-loop : tie.MeasureT-loop
-μ-loop bytes i₀ t4 i = length bytes - i
-
-slice-aggregate-words : tie.Need-slice-aggregate-words Inv-loop μ-loop
-slice-aggregate-words c = search needs
+μ-loop name bytes i₀ t4 i = length bytes - i
 
 words-requires : tie.Need-words-requires Inv-loop μ-loop
 words-requires c κs = search needs
@@ -35,8 +32,8 @@ loop-less c = search needs
 loop-again : tie.Need-loop-again Inv-loop μ-loop
 loop-again c = search needs
 
-slice-aggregate-words-2 : tie.Need-slice-aggregate-words-2 Inv-loop μ-loop
-slice-aggregate-words-2 c = search needs
+slice-aggregate-words : tie.Need-slice-aggregate-words Inv-loop μ-loop
+slice-aggregate-words c = search needs
 
 words-requires-2 : tie.Need-words-requires-2 Inv-loop μ-loop
 words-requires-2 c κs = search needs
@@ -44,13 +41,12 @@ words-requires-2 c κs = search needs
 returns : tie.Need-returns Inv-loop μ-loop
 returns c = search needs
 
-pub data-spec : {M : Type 1} → statement M
-data-spec =
+pub bytes-spec : {M : Type 1} → statement M
+bytes-spec =
     tie.close
     (tie.spec
     Inv-loop
     μ-loop
-    slice-aggregate-words
     words-requires
     loop-holds
     shared-slice-read-hex
@@ -58,6 +54,6 @@ data-spec =
     add-i
     loop-less
     loop-again
-    slice-aggregate-words-2
+    slice-aggregate-words
     words-requires-2
     returns)

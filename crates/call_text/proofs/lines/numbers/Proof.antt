@@ -1,18 +1,15 @@
--- `call_text::lines::cells` ends. Assumes nothing.
+-- `call_text::lines::numbers` ends. Assumes nothing.
 use Prim.Native.Nat.{_-_}
 use lib.ListN.{length}
 use borrow.Author.Needs.{needs}
-use Rattle.call_text.proofs.lines.cells.Statement.{statement}
-use Rattle.call_text.proofs.lines.cells.Tie as tie
+use Rattle.call_text.proofs.lines.numbers.Statement.{statement}
+use Rattle.call_text.proofs.lines.numbers.Tie as tie
 
 abbrev Inv-loop : tie.InvT-loop
-Inv-loop list count i₀ t5 i = Unit {0}
+Inv-loop name list count i₀ t5 i = Unit {0}
 
 abbrev μ-loop : tie.MeasureT-loop
-μ-loop list count i₀ t5 i = length list - i
-
-slice-aggregate-words : tie.Need-slice-aggregate-words Inv-loop μ-loop
-slice-aggregate-words c = search needs
+μ-loop name list count i₀ t5 i = length list - i
 
 words-requires : tie.Need-words-requires Inv-loop μ-loop
 words-requires c κs = search needs
@@ -41,8 +38,8 @@ loop-less c = search needs
 loop-again : tie.Need-loop-again Inv-loop μ-loop
 loop-again c = search needs
 
-slice-aggregate-words-2 : tie.Need-slice-aggregate-words-2 Inv-loop μ-loop
-slice-aggregate-words-2 c = search needs
+slice-aggregate-words : tie.Need-slice-aggregate-words Inv-loop μ-loop
+slice-aggregate-words c = search needs
 
 words-requires-2 : tie.Need-words-requires-2 Inv-loop μ-loop
 words-requires-2 c κs = search needs
@@ -50,13 +47,12 @@ words-requires-2 c κs = search needs
 returns : tie.Need-returns Inv-loop μ-loop
 returns c = search needs
 
-pub cells-spec : {M : Type 1} → statement M
-cells-spec =
+pub numbers-spec : {M : Type 1} → statement M
+numbers-spec =
     tie.close
     (tie.spec
     Inv-loop
     μ-loop
-    slice-aggregate-words
     words-requires
     loop-holds
     mul-wide
@@ -66,6 +62,6 @@ cells-spec =
     add-i
     loop-less
     loop-again
-    slice-aggregate-words-2
+    slice-aggregate-words
     words-requires-2
     returns)
