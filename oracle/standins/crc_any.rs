@@ -1,4 +1,5 @@
 //! Stands in for crc_any: its CRC-8 with polynomial 07, start 0, no reflection and no final xor.
+#![cfg_attr(not(test), no_std)]
 
 pub struct CRCu8 {
     sum: u8,

@@ -156,9 +156,13 @@ fn is_count(x: u8, cell_count: u8) -> bool
     ensures { λ r. ⌜ r ≡ isCount x «cell_count» ⌝ }
 {
     let n = cell_count;
-    ((x == BQ769x0::BQ76920) & ((3 <= n) & (n <= 5)))
-        | ((x == BQ769x0::BQ76930) & ((6 <= n) & (n <= 10)))
-        | ((x == BQ769x0::BQ76940) & ((9 <= n) & (n <= 15)))
+    if x == BQ769x0::BQ76920 {
+        return (3 <= n) & (n <= 5);
+    }
+    if x == BQ769x0::BQ76930 {
+        return (6 <= n) & (n <= 10);
+    }
+    (x == BQ769x0::BQ76940) & ((9 <= n) & (n <= 15))
 }
 
 // 9, 10, 11.

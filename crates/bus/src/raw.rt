@@ -34,7 +34,16 @@ impl Setup {
         ensures { λ r. ⌜ r ≡ sound self ⌝ }
     {
         let x = self.x;
-        (self.address <= 127) & ((x == 5) | (x == 10) | (x == 15))
+        if 127 < self.address {
+            return false;
+        }
+        if x == 5 {
+            return true;
+        }
+        if x == 10 {
+            return true;
+        }
+        x == 15
     }
 }
 

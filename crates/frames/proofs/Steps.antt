@@ -1,7 +1,7 @@
 -- What the code's steps do: a step takes from the front of what is left, and leaves what the contract says of the rest.
 -- Assumes nothing.
 use mathlib.Core.Path.{_≡_, refl, sym, ap, _∙_}
-use mathlib.Core.Bool.{Bool, false, cond, _&&_}
+use mathlib.Core.Bool.{Bool, true, false, cond, _&&_}
 use mathlib.Core.Logic.{_⊎_, inl, inr}
 use mathlib.Core.List.{List, [], _∷_, _++_}
 use Prim.Native.Nat.{ℕ, zero, suc, _+_, _-_, _*_, _/_, _%_, _^_, _≤_, _<_}
@@ -11,7 +11,6 @@ use lib.Bits.{bitOr, or-shifted}
 use lib.Dec.{eqb, eqb·suc-suc, lit<}
 use lib.ListN.{length, getD, drop, set, take, length-set, drop-of-length-le}
 use lib.Seq.{drop-cons, drop-drop, take-nil}
-use borrow.Author.Tests.{eq-eqb, ne-eqb}
 use Rattle.check_byte.specs.CheckByte.{checkByte}
 use Rattle.frames.specs.Frames.{writeByte, readByte, checked, right, dataOf, framed, writeFrame, written}
 use Rattle.frames.specs.Put.{put}
@@ -116,13 +115,18 @@ carried-all l out i (inl full) =
     rw (none, put-none)
 carried-all l out i (inr end) = rw (drop-of-length-le l end, take-nil (length out - i), put-none)
 
--- a check byte that does not match, and one that does
-module _ (before l : List ℕ) (i c : ℕ) (h : i + 1 < length l) (e : c ≡ checkByte (before ++ getD l i 0 ∷ [])) where
-  pub wrong : (c ≡ getD l (i + 1) 0 → ⊥) → right before (drop i l) ≡ false
-  wrong n = next-right l i before h ∙ ap (λ (t : Bool). t && right [] (drop (i + 2) l)) (ne-eqb _ _ (λ m. n (e ∙ sym m)))
+-- a byte's test, and those of the rest
+pub tested : (before l : List ℕ) (i c : ℕ) → i + 1 < length l → c ≡ checkByte (before ++ getD l i 0 ∷ [])
+    → right before (drop i l) ≡ eqb (getD l (i + 1) 0) c && right [] (drop (i + 2) l)
+tested before l i c h e = next-right l i before h ∙ ap (λ (x : ℕ). eqb (getD l (i + 1) 0) x && right [] (drop (i + 2) l)) (sym e)
 
-  pub passed : c ≡ getD l (i + 1) 0 → right before (drop i l) ≡ right [] (drop (i + 2) l)
-  passed m = next-right l i before h ∙ ap (λ (t : Bool). t && right [] (drop (i + 2) l)) (eq-eqb _ _ (sym m ∙ e))
+-- the same after bytes of which each was right or one was not
+pub tested-next : (ok : Bool) (l : List ℕ) (i c : ℕ) → 2 * i + 1 < length l → c ≡ checkByte (getD l (2 * i) 0 ∷ [])
+    → ok && right [] (drop (2 * i) l) ≡ (ok && eqb (getD l (2 * i + 1) 0) c) && right [] (drop (2 * (i + 1)) l)
+tested-next true l i c h e =
+    let after : 2 * i + 2 ≡ 2 * (i + 1) = omega arith in
+    tested [] l (2 * i) c h e ∙ ap (λ (k : ℕ). eqb (getD l (2 * i + 1) 0) c && right [] (drop k l)) after
+tested-next false l i c h e = refl
 
 -- what is left is no byte, or one with no check byte
 pub right-end : (before l : List ℕ) (i : ℕ) → i ≤ length l → length l ≤ i + 1 → eqb (length l) i ≡ right before (drop i l)

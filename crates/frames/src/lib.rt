@@ -2,7 +2,8 @@
 // a read is tested and its data taken out. `specs/Frames.antt` has the datasheet's rule.
 ghost use mathlib.Core.Path.{_≡_};
 ghost use mathlib.Core.List.{[], _∷_};
-ghost use Prim.Native.Nat.{_*_, _<_};
+ghost use mathlib.Core.Logic.{_⊎_};
+ghost use Prim.Native.Nat.{_+_, _*_, _/_, _≤_, _<_};
 ghost use lib.ListN.{length, take};
 ghost use Rattle.frames.specs.Frames.{writeByte, readByte, checked, right, dataOf, written};
 ghost use Rattle.frames.specs.Put.{put};
@@ -59,24 +60,32 @@ pub fn write_frame(check: bool, address: u8, reg: u8, data: &[u8], out: &mut [u8
     }
 }
 
-// Whether each byte of a read has its check byte, and the right one.
+// Whether each byte of a read has its check byte, and the right one. The longest frame, of 30 data bytes, is counted by a constant, here and below,
+// so that the compiler unrolls the loop.
 pub fn right_checks(address: u8, frame: &[u8]) -> bool
     ensures { λ r. ⌜ r ≡ right (readByte address ∷ []) (now (frame .entry)) ⌝ }
 {
     if frame.len() < 2 {
         return frame.len() == 0;
     }
-    if check_byte2(address << 1 | 1, frame[0]) != frame[1] {
-        return false;
+    if frame.len() == 60 {
+        return right_each(address, frame, 30);
     }
-    let mut i = 2;
-    while i + 1 < frame.len() {
-        if check_byte1(frame[i]) != frame[i + 1] {
-            return false;
-        }
-        i += 2;
+    right_each(address, frame, frame.len() / 2)
+}
+
+// No test leaves the loop, so that many bytes are tested at once.
+fn right_each(address: u8, frame: &[u8], n: usize) -> bool
+    requires { ⌜ (1 ≤ n) × (n ≡ length (now frame) / 2) ⌝ }
+    ensures { λ r. ⌜ r ≡ right (readByte address ∷ []) (now (frame .entry)) ⌝ }
+{
+    let mut right = frame[1] == check_byte2(address << 1 | 1, frame[0]);
+    let mut i = 1;
+    while i < n {
+        right = right & (frame[2 * i + 1] == check_byte1(frame[2 * i]));
+        i += 1;
     }
-    frame.len() == i
+    right & (frame.len() == 2 * n)
 }
 
 // The data of a read with check bytes, as far as the frame and data go.
@@ -87,6 +96,19 @@ pub fn carried(frame: &[u8], data: &mut [u8])
     if data.len() < n {
         n = data.len();
     }
+    if n == 30 {
+        carry(frame, data, 30);
+    } else {
+        carry(frame, data, n);
+    }
+}
+
+// The first n of the frame's data.
+fn carry(frame: &[u8], data: &mut [u8], n: usize)
+    requires { ⌜ (2 * n ≤ length (now frame) + 1) × (n ≤ length (now «data»)) ⌝ }
+    requires { ⌜ (length (now «data») ≤ n) ⊎ (length (now frame) ≤ 2 * n) ⌝ }
+    ensures { λ _. ⌜ now («data» .exit) ≡ put (now («data» .entry)) 0 (take (length (now («data» .entry))) (dataOf (now (frame .entry)))) ⌝ }
+{
     let mut i = 0;
     while i < n {
         data[i] = frame[2 * i];

@@ -5,11 +5,14 @@ ghost use Rattle.measuring.specs.Moves.{movedIf, moves, inTurn};
 use bq769x0::BQ769x0;
 use units::MilliVolts;
 
-// `!first` is the Rust's `else`.
+// `!first` is the Rust's `else`. With 15 cells nothing moves, and no test below is made.
 pub(crate) fn in_turn(x: u8, cell_count: u8, cells: [MilliVolts; 15]) -> [MilliVolts; 15]
     ensures { λ r. ⌜ r ≡ inTurn (moves x «cell_count») cells ⌝ }
 {
     let cc = cell_count;
+    if cc == 15 {
+        return cells;
+    }
     let first = (cc == 3) | (cc == 6) | (cc == 9);
     let cells = moved(first, 2, 4, cells);
     let second = (cc == 4) | (cc == 7) | (cc == 8) | (cc == 10) | (cc == 11) | (cc == 12);

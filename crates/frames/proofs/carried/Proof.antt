@@ -1,92 +1,41 @@
--- `frames::carried` meets its contract. The loop's invariant: with the data that is left in its place, `data` is as it has to be.
--- Assumes nothing.
-use mathlib.Core.Path.{_≡_, refl, sym, ap, _∙_}
-use mathlib.Core.Logic.{_⊎_, inl, inr, ⊎-elim}
-use Prim.Native.Nat.{ℕ, _+_, _*_, _-_, _≤_}
+-- `frames::carried` meets its contract. Assumes nothing.
+use mathlib.Core.Logic.{inl, inr, ⊎-elim}
 use native.Mathlib.Omega.{arith}
-use lib.ListN.{length, take, drop, length-set}
 use borrow.Author.Needs.{needs}
-use Rattle.frames.specs.Frames.{dataOf}
-use Rattle.frames.specs.Put.{put}
-use Rattle.frames.proofs.Steps.{carried-one, carried-all}
 use Rattle.frames.proofs.carried.Statement.{statement}
 use Rattle.frames.proofs.carried.Tie as tie
 
--- n bytes: as many as there is room for, or as many as the frame has
-abbrev Count : ℕ → ℕ → ℕ → Type 0
-Count n room size = (n ≤ room) × (2 * n ≤ size + 1) × ((room ≤ n) ⊎ (size ≤ 2 * n))
-
-abbrev Inv-loop : tie.InvT-loop
-Inv-loop frame data₀ n i₀ «data» i =
-    (put «data» i (take (length «data» - i) (dataOf (drop (2 * i) frame))) ≡ put data₀ 0 (take (length data₀) (dataOf frame)))
-    × (length «data» ≡ length data₀)
-    × (i ≤ n)
-    × Count n (length data₀) (length frame)
-
-abbrev μ-loop : tie.MeasureT-loop
-μ-loop frame data₀ n i₀ «data» i = n - i
-
-sub-n : tie.Need-sub-n Inv-loop μ-loop
+sub-n : tie.Need-sub-n
 sub-n c = search needs
 
-loop-holds : tie.Need-loop-holds Inv-loop μ-loop
-loop-holds c =
-    let a = c .before .args in
-    let none : length (a .«data» .now) - 0 ≡ length (a .«data» .now) = omega arith in (
-      ap (λ (k : ℕ). put (a .«data» .now) 0 (take k (dataOf (a .frame .now)))) none,
-      refl,
-      search needs,
-      ⊎-elim (λ w. (omega arith, omega arith, inl (omega arith))) (λ w. (omega arith, omega arith, inr (omega arith))) (c .if1 .came),
-    )
+carry-requires : tie.Need-carry-requires
+carry-requires c κs =
+    ⊎-elim (λ w. ((omega arith, omega arith), inl (omega arith))) (λ w. ((omega arith, omega arith), inr (omega arith))) (c .before .before .if1 .came)
 
-mul-data : tie.Need-mul-data Inv-loop μ-loop
-mul-data c = search needs
+carry-requires-2 : tie.Need-carry-requires-2
+carry-requires-2 c κs =
+    ⊎-elim (λ w. ((omega arith, omega arith), inl (omega arith))) (λ w. ((omega arith, omega arith), inr (omega arith))) (c .before .before .if1 .came)
 
-shared-slice-read-data : tie.Need-shared-slice-read-data Inv-loop μ-loop
-shared-slice-read-data c = search needs
+same-length : tie.Need-same-length
+same-length c = search needs
 
-slice-write-data : tie.Need-slice-write-data Inv-loop μ-loop
-slice-write-data c = search needs
+returns : tie.Need-returns
+returns c = c .before .before .carry .ensures
 
-add-i : tie.Need-add-i Inv-loop μ-loop
-add-i c = search needs
+same-length-2 : tie.Need-same-length-2
+same-length-2 c = search needs
 
-loop-less : tie.Need-loop-less Inv-loop μ-loop
-loop-less c = search needs
-
-loop-again : tie.Need-loop-again Inv-loop μ-loop
-loop-again c =
-    let t = c .before .before in
-    let frame = t .before .before .args .frame .now in (
-      carried-one frame (t .loop .«data») (t .loop .i) (search needs) (search needs) ∙ t .loop .inv .0,
-      simp length-set (t .loop .inv .1),
-      search needs,
-      t .loop .inv .3,
-    )
-
-same-length : tie.Need-same-length Inv-loop μ-loop
-same-length c = c .before .loop .inv .1
-
-returns : tie.Need-returns Inv-loop μ-loop
-returns c =
-    let t = c .before in
-    let frame = t .before .before .args .frame .now in
-    sym (carried-all frame (t .loop .«data») (t .loop .i) (⊎-elim (λ l. inl (omega arith)) (λ l. inr (omega arith)) (t .loop .inv .3 .2)))
-    ∙ t .loop .inv .0
+returns-2 : tie.Need-returns-2
+returns-2 c = c .before .before .carry2 .ensures
 
 pub carried-spec : {M : Type 1} → statement M
 carried-spec =
     tie.close
     (tie.spec
-    Inv-loop
-    μ-loop
     sub-n
-    loop-holds
-    mul-data
-    shared-slice-read-data
-    slice-write-data
-    add-i
-    loop-less
-    loop-again
+    carry-requires
+    carry-requires-2
     same-length
-    returns)
+    returns
+    same-length-2
+    returns-2)

@@ -1,0 +1,16 @@
+-- Two outcomes that meet one promise agree, in all that C is given: a promise names the whole of it.
+-- Assumes nothing.
+use mathlib.Core.Path.{_≡_, sym, ap, _∙_}
+use Prim.Native.Nat.{ℕ}
+use mathlib.Core.List.{List}
+use Rattle.entries.specs.Entries.{Given, given}
+
+pub given-agree : (x : Given) (n n′ : ℕ) (out out′ log log′ lent lent′ : List ℕ)
+    → given n out log lent ≡ x → given n′ out′ log′ lent′ ≡ x → (n ≡ n′) × (out ≡ out′) × (log ≡ log′) × (lent ≡ lent′)
+given-agree x n n′ out out′ log log′ lent lent′ e e′ =
+    let same = e ∙ sym e′ in (
+      ap (λ (g : Given). g .number) same,
+      ap (λ (g : Given). g .out) same,
+      ap (λ (g : Given). g .log) same,
+      ap (λ (g : Given). g .lent) same,
+    )

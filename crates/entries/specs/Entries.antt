@@ -1,0 +1,68 @@
+-- What the bench's C is given of a call: a number, three numbers in out, the log, and the bytes or numbers that it lent.
+-- Assumes nothing.
+use Prim.Native.Nat.{ℕ}
+use mathlib.Core.Bool.{Bool, not}
+use mathlib.Core.List.{List, [], _∷_}
+use lib.Dec.{eqb}
+use lib.IntN.{ℤ}
+use lib.ListN.{replicate}
+use Rattle.signed.specs.Numbers.{asU32, asI8}
+use Rattle.refusals.specs.Refusal.{Answer, value, refused}
+use Rattle.bus.specs.Programs.{Ran}
+use Rattle.bus.specs.Raw.{Read}
+use Rattle.bus.specs.declared.Cursor.{Cursor}
+use Rattle.bus.specs.declared.raw.Setup.{Setup}
+use Rattle.bq769x0.specs.declared.BQ769x0.{BQ769x0}
+use Rattle.measuring.specs.Cells.{Filled}
+
+-- tape and log unused
+abbrev pub start : Cursor
+start = record { tape = 0; log = 0 }
+
+abbrev pub setupBy : ℕ → ℕ → Bool → Setup
+setupBy x address check = record { address = address; check = check; x = x }
+
+-- with the offset that register 51 gives, initialised where the shunt is not 0, the cells zero
+abbrev pub recordBy : ℕ → ℕ → ℕ → Bool → ℕ → ℕ → ℕ → BQ769x0
+recordBy x n address check gain b51 shunt = record {
+  x = x;
+  «dev_address» = address;
+  check = check;
+  «init_complete» = not (eqb shunt 0);
+  «adc_gain» = gain;
+  «adc_offset» = asI8 b51;
+  shunt = record { 0 = shunt };
+  «cell_count» = n;
+  cells = replicate 15 (record { 0 = 0 });
+}
+
+-- 0 where accepted, else the refusal's
+abbrev pub numberOf : {A : Type 0} → Answer A → ℕ
+numberOf (value a) = 0
+numberOf (refused r) = r .number
+
+-- the current, below zero as 2^32 less its size; 0 where there is none
+abbrev pub flowOf : Answer ℤ → ℕ
+flowOf (value current) = asU32 current
+flowOf (refused r) = 0
+
+abbrev pub outOf : Cursor → ℕ → List ℕ
+outOf at flow = at .tape ∷ at .log ∷ flow ∷ []
+
+pub record Given : Type 0 where
+  pub number : ℕ
+  pub out : List ℕ
+  pub log : List ℕ
+  pub lent : List ℕ
+
+abbrev pub given : ℕ → List ℕ → List ℕ → List ℕ → Given
+given number out log lent = record { number = number; out = out; log = log; lent = lent }
+
+abbrev pub asRead : Ran Read → Given
+asRead r = given (numberOf (r .answer .answer)) (outOf (r .bus .at) 0) (r .bus .log) (r .answer .bytes)
+
+abbrev pub asCells : Ran Filled → Given
+asCells r = given (numberOf (r .answer .answer)) (outOf (r .bus .at) 0) (r .bus .log) (r .answer .list)
+
+abbrev pub asFlow : Ran (Answer ℤ) → Given
+asFlow r = given (numberOf (r .answer)) (outOf (r .bus .at) (flowOf (r .answer))) (r .bus .log) []
