@@ -37,8 +37,9 @@ impl BQ769x0 {
         ensures { λ r. ⌜ ran (leaves (asRaw (r .answer)) (r .device)) (now (tape .entry)) (now (log .exit)) (r .at)
             ≡ onTape (calibrate self) (busOf (now (tape .entry)) (now (log .entry)) at) ⌝ }
     {
+        let setup = self.setup();
         let mut gain1_offset = [0u8; 2];
-        let first = self.read(Self::ADCGAIN1, &mut gain1_offset, tape, log, at);
+        let first = setup.read_raw(Self::ADCGAIN1, &mut gain1_offset, tape, log, at);
         let answer = first.answer;
         let next = first.at;
         let RawAnswer::Done = answer else {
@@ -49,7 +50,7 @@ impl BQ769x0 {
             };
         };
         let mut gain2 = [0u8; 1];
-        let second = self.read(0x59, &mut gain2, tape, log, next);
+        let second = setup.read_raw(0x59, &mut gain2, tape, log, next);
         let answer = second.answer;
         let next = second.at;
         let RawAnswer::Done = answer else {

@@ -3,8 +3,6 @@ ghost use mathlib.Core.Path.{_≡_};
 ghost use Rattle.bus.specs.Transfers.{busOf};
 ghost use Rattle.bus.specs.Programs.{onTape, ran};
 ghost use Rattle.bus.specs.Raw.{asRaw, gives};
-ghost use Rattle.bus.specs.Raw as setup;
-ghost use Rattle.bq769x0.specs.Record.{setupOf};
 ghost use Rattle.bq769x0.specs.Registers.{readRaw, writeRaw};
 use crate::BQ769x0;
 use bus::Cursor;
@@ -30,7 +28,8 @@ impl BQ769x0 {
                 at,
             };
         }
-        self.read(reg_address, data, tape, log, at)
+        let setup = self.setup();
+        setup.read_raw(reg_address, data, tape, log, at)
     }
 
     pub fn write_raw(
@@ -50,30 +49,7 @@ impl BQ769x0 {
                 at,
             };
         }
-        self.write(reg_address, data, tape, log, at)
-    }
-
-    // The same on a record that is known to be sound.
-    pub(crate) fn read(
-        self,
-        reg: u8,
-        data: &mut [u8],
-        tape: &[u8],
-        log: &mut [u8],
-        at: Cursor,
-    ) -> Raw
-        ensures { λ r. ⌜ ran (gives (asRaw (r .answer)) (now («data» .exit))) (now (tape .entry)) (now (log .exit)) (r .at)
-            ≡ onTape (setup.readRaw (setupOf self) reg (now («data» .entry))) (busOf (now (tape .entry)) (now (log .entry)) at) ⌝ }
-    {
         let setup = self.setup();
-        setup.read_raw(reg, data, tape, log, at)
-    }
-
-    pub(crate) fn write(self, reg: u8, data: &[u8], tape: &[u8], log: &mut [u8], at: Cursor) -> Raw
-        ensures { λ r. ⌜ ran (asRaw (r .answer)) (now (tape .entry)) (now (log .exit)) (r .at)
-            ≡ onTape (setup.writeRaw (setupOf self) reg (now («data» .entry))) (busOf (now (tape .entry)) (now (log .entry)) at) ⌝ }
-    {
-        let setup = self.setup();
-        setup.write_raw(reg, data, tape, log, at)
+        setup.write_raw(reg_address, data, tape, log, at)
     }
 }

@@ -82,6 +82,7 @@ impl BQ769x0 {
         ensures { λ r. ⌜ ran (leaves (asInit (r .answer)) (r .device)) (now (tape .entry)) (now (log .exit)) (r .at)
             ≡ onTape (setting config (inMv steps) self) (busOf (now (tape .entry)) (now (log .entry)) at) ⌝ }
     {
+        let setup = self.setup();
         let plan = setup::plan(self.adc_transfer_function(), config, steps);
         let planned = plan.answer;
         let regs = plan.regs;
@@ -92,7 +93,7 @@ impl BQ769x0 {
                 at,
             };
         };
-        let wrote = self.write(Self::PROTECT1, &regs, tape, log, at);
+        let wrote = setup.write_raw(Self::PROTECT1, &regs, tape, log, at);
         let answer = wrote.answer;
         let next = wrote.at;
         let RawAnswer::Done = answer else {
@@ -111,8 +112,9 @@ impl BQ769x0 {
         ensures { λ r. ⌜ ran (leaves (asInit (r .answer)) (r .device)) (now (tape .entry)) (now (log .exit)) (r .at)
             ≡ onTape (counting self (asValues values)) (busOf (now (tape .entry)) (now (log .entry)) at) ⌝ }
     {
+        let setup = self.setup();
         let mut sysctrl2 = [0u8; 1];
-        let read = self.read(Self::SYS_CTRL2, &mut sysctrl2, tape, log, at);
+        let read = setup.read_raw(Self::SYS_CTRL2, &mut sysctrl2, tape, log, at);
         let answer = read.answer;
         let next = read.at;
         let RawAnswer::Done = answer else {
@@ -123,7 +125,7 @@ impl BQ769x0 {
             };
         };
         let on = [sysctrl2[0] | 0b0100_0000]; // !!CC_EN!!
-        let wrote = self.write(Self::SYS_CTRL2, &on, tape, log, next);
+        let wrote = setup.write_raw(Self::SYS_CTRL2, &on, tape, log, next);
         let answer = wrote.answer;
         let next = wrote.at;
         let RawAnswer::Done = answer else {

@@ -8,11 +8,14 @@ use borrow.Author.Needs.{needs}
 use Rattle.bq769x0.proofs.BQ769x0.calibrate.Statement.{statement}
 use Rattle.bq769x0.proofs.BQ769x0.calibrate.Tie as tie
 
-slice-aggregate-read : tie.Need-slice-aggregate-read
-slice-aggregate-read c = search needs
+setup-requires : tie.Need-setup-requires
+setup-requires c κs = search needs
 
-read-requires : tie.Need-read-requires
-read-requires c κs = search needs
+slice-aggregate-read-raw : tie.Need-slice-aggregate-read-raw
+slice-aggregate-read-raw c = search needs
+
+read-raw-requires : tie.Need-read-raw-requires
+read-raw-requires c κs = search needs
 
 enum-told : tie.Need-enum-told
 enum-told c = search needs
@@ -27,13 +30,13 @@ returns : tie.Need-returns
 unfolding calibrate
 returns c =
     let t = ap asRaw (c .enum-told2 .given .1) in
-    rw t (sym (read-off _ _ 2 _ (c .before .before .before .before .before .before .read .ensures) _ _ _ t))
+    rw t (sym (read-off _ _ 2 _ (c .before .before .before .before .before .before .read-raw .ensures ∙ rw (c .before .before .before .before .before .before .before .before .before .setup .ensures)) _ _ _ t))
 
-slice-aggregate-read-2 : tie.Need-slice-aggregate-read-2
-slice-aggregate-read-2 c = search needs
+slice-aggregate-read-raw-2 : tie.Need-slice-aggregate-read-raw-2
+slice-aggregate-read-raw-2 c = search needs
 
-read-requires-2 : tie.Need-read-requires-2
-read-requires-2 c κs = search needs
+read-raw-requires-2 : tie.Need-read-raw-requires-2
+read-raw-requires-2 c κs = search needs
 
 enum-told-3 : tie.Need-enum-told-3
 enum-told-3 c = search needs
@@ -49,8 +52,8 @@ unfolding calibrate
 returns-2 c =
     let t = ap asRaw (c .enum-told4 .given .1) in
     rw t (sym (
-    read-on _ _ 2 _ (c .before .before .before .before .before .before .before .before .before .before .before .before .before .before .before .read .ensures) _ _ (ap asRaw (c .before .before .before .before .before .before .before .before .before .enum-told .given .1))
-    ∙ read-off _ _ 1 _ (c .before .before .before .before .before .before .read2 .ensures) _ _ _ t))
+    read-on _ _ 2 _ (c .before .before .before .before .before .before .before .before .before .before .before .before .before .before .before .read-raw .ensures ∙ rw (c .before .before .before .before .before .before .before .before .before .before .before .before .before .before .before .before .before .before .setup .ensures)) _ _ (ap asRaw (c .before .before .before .before .before .before .before .before .before .enum-told .given .1))
+    ∙ read-off _ _ 1 _ (c .before .before .before .before .before .before .read-raw2 .ensures ∙ rw (c .before .before .before .before .before .before .before .before .before .before .before .before .before .before .before .before .before .before .setup .ensures)) _ _ _ t))
 
 array-read-from-registers : tie.Need-array-read-from-registers
 array-read-from-registers c = search needs
@@ -75,21 +78,22 @@ unfolding calibrate onTape
 returns-3 c =
     let t = ap asRaw (c .before .before .enum-told3 .given .1) in
     rw (c .store-calibration .ensures, c .before .from-registers .ensures, t) (sym (
-    read-on _ _ 2 _ (c .before .before .before .before .before .before .before .before .before .before .before .before .before .before .before .before .before .read .ensures) _ _ (ap asRaw (c .before .before .before .before .before .before .before .before .before .before .before .enum-told .given .1))
-    ∙ read-on _ _ 1 _ (c .before .before .before .before .before .before .before .before .read2 .ensures) _ _ t))
+    read-on _ _ 2 _ (c .before .before .before .before .before .before .before .before .before .before .before .before .before .before .before .before .before .read-raw .ensures ∙ rw (c .before .before .before .before .before .before .before .before .before .before .before .before .before .before .before .before .before .before .before .before .setup .ensures)) _ _ (ap asRaw (c .before .before .before .before .before .before .before .before .before .before .before .enum-told .given .1))
+    ∙ read-on _ _ 1 _ (c .before .before .before .before .before .before .before .before .read-raw2 .ensures ∙ rw (c .before .before .before .before .before .before .before .before .before .before .before .before .before .before .before .before .before .before .before .before .setup .ensures)) _ _ t))
 
 pub calibrate-spec : {M : Type 1} → statement M
 calibrate-spec =
     tie.close
     (tie.spec
-    slice-aggregate-read
-    read-requires
+    setup-requires
+    slice-aggregate-read-raw
+    read-raw-requires
     enum-told
     enum-told-2
     same-length
     returns
-    slice-aggregate-read-2
-    read-requires-2
+    slice-aggregate-read-raw-2
+    read-raw-requires-2
     enum-told-3
     enum-told-4
     same-length-2

@@ -9,11 +9,14 @@ use borrow.Author.Needs.{needs}
 use Rattle.bq769x0.proofs.BQ769x0.count.Statement.{statement}
 use Rattle.bq769x0.proofs.BQ769x0.count.Tie as tie
 
-slice-aggregate-read : tie.Need-slice-aggregate-read
-slice-aggregate-read c = search needs
+setup-requires : tie.Need-setup-requires
+setup-requires c κs = search needs
 
-read-requires : tie.Need-read-requires
-read-requires c κs = search needs
+slice-aggregate-read-raw : tie.Need-slice-aggregate-read-raw
+slice-aggregate-read-raw c = search needs
+
+read-raw-requires : tie.Need-read-raw-requires
+read-raw-requires c κs = search needs
 
 enum-told : tie.Need-enum-told
 enum-told c = search needs
@@ -31,16 +34,16 @@ returns : tie.Need-returns
 unfolding counting
 returns c =
     let t = ap asRaw (c .before .enum-told2 .given .1) in
-    rw (c .of-raw .ensures, t) (sym (read-off _ _ 1 _ (c .before .before .before .before .before .before .before .read .ensures) _ _ _ t))
+    rw (c .of-raw .ensures, t) (sym (read-off _ _ 1 _ (c .before .before .before .before .before .before .before .read-raw .ensures ∙ rw (c .before .before .before .before .before .before .before .before .before .before .setup .ensures)) _ _ _ t))
 
-array-read-t21 : tie.Need-array-read-t21
-array-read-t21 c = search needs
+array-read-t22 : tie.Need-array-read-t22
+array-read-t22 c = search needs
 
-slice-aggregate-write : tie.Need-slice-aggregate-write
-slice-aggregate-write c = search needs
+slice-aggregate-write-raw : tie.Need-slice-aggregate-write-raw
+slice-aggregate-write-raw c = search needs
 
-write-requires : tie.Need-write-requires
-write-requires c κs = search needs
+write-raw-requires : tie.Need-write-raw-requires
+write-raw-requires c κs = search needs
 
 enum-told-3 : tie.Need-enum-told-3
 enum-told-3 c = search needs
@@ -59,8 +62,8 @@ unfolding counting
 returns-2 c =
     let t = ap asRaw (c .before .enum-told4 .given .1) in
     rw (c .of-raw2 .ensures, t) (sym (
-    read-on _ _ 1 _ (c .before .before .before .before .before .before .before .before .before .before .before .before .before .before .before .read .ensures) _ _ (ap asRaw (c .before .before .before .before .before .before .before .before .before .enum-told .given .1))
-    ∙ went-off _ _ _ _ _ _ (sym (c .before .before .before .before .before .before .write .ensures)) _ t))
+    read-on _ _ 1 _ (c .before .before .before .before .before .before .before .before .before .before .before .before .before .before .before .read-raw .ensures ∙ rw (c .before .before .before .before .before .before .before .before .before .before .before .before .before .before .before .before .before .before .setup .ensures)) _ _ (ap asRaw (c .before .before .before .before .before .before .before .before .before .enum-told .given .1))
+    ∙ went-off _ _ _ _ _ _ (sym (c .before .before .before .before .before .before .write-raw .ensures ∙ rw (c .before .before .before .before .before .before .before .before .before .before .before .before .before .before .before .before .before .before .setup .ensures))) _ t))
 
 same-length-3 : tie.Need-same-length-3
 same-length-3 c = search needs
@@ -69,23 +72,24 @@ returns-3 : tie.Need-returns-3
 unfolding counting onTape
 returns-3 c =
     sym (
-    read-on _ _ 1 _ (c .before .before .before .before .before .before .before .before .before .before .before .before .before .before .read .ensures) _ _ (ap asRaw (c .before .before .before .before .before .before .before .before .enum-told .given .1))
-    ∙ went-on _ _ _ _ _ _ (sym (c .before .before .before .before .before .write .ensures)) _ (ap asRaw (c .enum-told3 .given .1)))
+    read-on _ _ 1 _ (c .before .before .before .before .before .before .before .before .before .before .before .before .before .before .read-raw .ensures ∙ rw (c .before .before .before .before .before .before .before .before .before .before .before .before .before .before .before .before .before .setup .ensures)) _ _ (ap asRaw (c .before .before .before .before .before .before .before .before .enum-told .given .1))
+    ∙ went-on _ _ _ _ _ _ (sym (c .before .before .before .before .before .write-raw .ensures ∙ rw (c .before .before .before .before .before .before .before .before .before .before .before .before .before .before .before .before .before .setup .ensures))) _ (ap asRaw (c .enum-told3 .given .1)))
 
 pub count-spec : {M : Type 1} → statement M
 count-spec =
     tie.close
     (tie.spec
-    slice-aggregate-read
-    read-requires
+    setup-requires
+    slice-aggregate-read-raw
+    read-raw-requires
     enum-told
     enum-told-2
     of-raw-requires
     same-length
     returns
-    array-read-t21
-    slice-aggregate-write
-    write-requires
+    array-read-t22
+    slice-aggregate-write-raw
+    write-raw-requires
     enum-told-3
     enum-told-4
     of-raw-requires-2

@@ -14,8 +14,11 @@ returns : tie.Need-returns
 unfolding readRaw
 returns c = sym (sound-off _ _ _ _ (sym (c .before .is-sound .ensures) ∙ not-true _ (c .if1 .taken)))
 
-read-requires : tie.Need-read-requires
-read-requires c κs = search needs
+setup-requires : tie.Need-setup-requires
+setup-requires c κs = search needs
+
+read-raw-requires : tie.Need-read-raw-requires
+read-raw-requires c κs = search needs
 
 same-length : tie.Need-same-length
 same-length c = search needs
@@ -26,10 +29,11 @@ same-length-2 c = search needs
 returns-2 : tie.Need-returns-2
 unfolding readRaw
 returns-2 c =
-    c .before .before .before .before .read .ensures
-    ∙ sym (sound-on _ _ _ _ (sym (c .before .before .before .before .before .before .before .before .is-sound .ensures) ∙ not-false _ (c .before .before .before .before .before .before .before .if1 .left)))
+    c .before .before .before .before .read-raw .ensures
+    ∙ rw (c .before .before .before .before .before .before .before .setup .ensures)
+    (sym (sound-on _ _ _ _ (sym (c .before .before .before .before .before .before .before .before .before .is-sound .ensures) ∙ not-false _ (c .before .before .before .before .before .before .before .before .if1 .left))))
 
 pub read-raw-spec : {M : Type 1} → statement M
 read-raw-spec =
     tie.close
-    (tie.spec is-sound-requires returns read-requires same-length same-length-2 returns-2)
+    (tie.spec is-sound-requires returns setup-requires read-raw-requires same-length same-length-2 returns-2)

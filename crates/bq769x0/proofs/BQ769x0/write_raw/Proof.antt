@@ -14,8 +14,11 @@ returns : tie.Need-returns
 unfolding writeRaw
 returns c = sym (sound-off _ _ _ _ (sym (c .before .is-sound .ensures) ∙ not-true _ (c .if1 .taken)))
 
-write-requires : tie.Need-write-requires
-write-requires c κs = search needs
+setup-requires : tie.Need-setup-requires
+setup-requires c κs = search needs
+
+write-raw-requires : tie.Need-write-raw-requires
+write-raw-requires c κs = search needs
 
 same-length : tie.Need-same-length
 same-length c = search needs
@@ -23,9 +26,10 @@ same-length c = search needs
 returns-2 : tie.Need-returns-2
 unfolding writeRaw
 returns-2 c =
-    c .before .before .write .ensures
-    ∙ sym (sound-on _ _ _ _ (sym (c .before .before .before .before .before .is-sound .ensures) ∙ not-false _ (c .before .before .before .before .if1 .left)))
+    c .before .before .write-raw .ensures
+    ∙ rw (c .before .before .before .before .setup .ensures)
+    (sym (sound-on _ _ _ _ (sym (c .before .before .before .before .before .before .is-sound .ensures) ∙ not-false _ (c .before .before .before .before .before .if1 .left))))
 
 pub write-raw-spec : {M : Type 1} → statement M
 write-raw-spec =
-    tie.close (tie.spec is-sound-requires returns write-requires same-length returns-2)
+    tie.close (tie.spec is-sound-requires returns setup-requires write-raw-requires same-length returns-2)
