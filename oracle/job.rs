@@ -62,7 +62,8 @@ fn parse_given(value: &[u8]) -> Option<Given> {
     Some(Given { kept, log_size: word(68) as usize, tape_at: long(72), log_at: long(80) })
 }
 
-fn parse_calls(bytes: &[u8]) -> Option<Job> {
+/// Field 20, calls, 3F and the tape.
+pub fn parse_calls(bytes: &[u8]) -> Option<Job> {
     let (0x20, &[x, cells, address, check @ 0..=1]) = field(bytes)? else { return None };
     let mut job = Job { given: None, x, cells, address, check: check == 1, calls: Vec::new(), tape: Vec::new() };
     let mut left = &bytes[7..];

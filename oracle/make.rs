@@ -29,15 +29,15 @@ impl Dice {
         self.below(100) < n
     }
 
-    fn pick<T: Copy>(&mut self, list: &[T]) -> T {
+    pub fn pick<T: Copy>(&mut self, list: &[T]) -> T {
         list[self.below(list.len())]
     }
 
-    fn byte(&mut self) -> u8 {
+    pub fn byte(&mut self) -> u8 {
         if self.percent(25) { self.pick(&[0x00, 0x01, 0x7F, 0x80, 0xFF]) } else { self.any() as u8 }
     }
 
-    fn bytes(&mut self, n: usize) -> Vec<u8> {
+    pub fn bytes(&mut self, n: usize) -> Vec<u8> {
         (0..n).map(|_| self.byte()).collect()
     }
 }
@@ -45,9 +45,14 @@ impl Dice {
 /// Registers 50, 51 and 59, as the job's chip has them.
 type Calibration = [u8; 3];
 
+/// The dice that the job of this index is thrown with.
+pub fn dice(seed: u64, index: u64) -> Dice {
+    Dice(Dice(Dice(seed).any() ^ index).any())
+}
+
 /// The job of this index: for callrun or for staterun.
 pub fn job(seed: u64, index: u64, given: bool) -> Vec<u8> {
-    let dice = &mut Dice(Dice(Dice(seed).any() ^ index).any());
+    let dice = &mut dice(seed, index);
     if given { given_job(dice) } else { calls_job(dice) }
 }
 
@@ -151,15 +156,21 @@ fn tighten(dice: &mut Dice, bytes: &mut [u8]) {
     let Some(job) = parse(bytes) else { return };
     let mut bus = Bus::of(&job);
     run(&job, &mut bus, true);
-    let (mut ends, mut end) = (Vec::new(), 0);
-    while let Some((_, value)) = field(&bus.log[end..]) {
-        end += 3 + value.len();
-        ends.push(bus.log_from + end);
-    }
+    let ends = ends(&bus.log);
     if !ends.is_empty() {
-        let size = dice.pick(&ends) - dice.below(2);
+        let size = bus.log_from + dice.pick(&ends) - dice.below(2);
         bytes[LOG_SIZE_AT..LOG_SIZE_AT + 4].copy_from_slice(&(size as u32).to_be_bytes());
     }
+}
+
+/// Where each of these fields ends.
+pub fn ends(fields: &[u8]) -> Vec<usize> {
+    let (mut ends, mut end) = (Vec::new(), 0);
+    while let Some((_, value)) = field(&fields[end..]) {
+        end += 3 + value.len();
+        ends.push(end);
+    }
+    ends
 }
 
 /// Mostly this place; or one near it, or far off.
@@ -205,7 +216,7 @@ fn damaged(dice: &mut Dice, mut bytes: Vec<u8>) -> Vec<u8> {
     bytes
 }
 
-fn device(dice: &mut Dice) -> [u8; 4] {
+pub fn device(dice: &mut Dice) -> [u8; 4] {
     let x = if dice.percent(2) { dice.byte() } else { dice.pick(&[5, 10, 15]) };
     let (low, high) = match x {
         5 => (3, 5),
@@ -257,7 +268,8 @@ fn register(dice: &mut Dice, count: usize) -> u8 {
     if dice.percent(20) { (256 + dice.below(3)).saturating_sub(count + 1).min(255) as u8 } else { dice.byte() }
 }
 
-fn init(dice: &mut Dice, chip: &Calibration) -> Vec<u8> {
+/// Field 21's value.
+pub fn init(dice: &mut Dice, chip: &Calibration) -> Vec<u8> {
     let shunt: u32 = match dice.below(20) {
         0 => dice.pick(&[0, 1, 2_147_483_647, 2_147_483_648, u32::MAX]),
         1 => dice.any() as u32,
@@ -328,7 +340,7 @@ struct Replies<'a> {
 }
 
 /// What the tape of these bytes goes on with.
-fn tape(dice: &mut Dice, bytes: &[u8], chip: Calibration) -> Vec<u8> {
+pub fn tape(dice: &mut Dice, bytes: &[u8], chip: Calibration) -> Vec<u8> {
     let Some(job) = parse(bytes) else { return dice.bytes(6) };
     let course = match dice.below(10) {
         0..=4 => Course::Clean,
@@ -405,7 +417,7 @@ impl Replies<'_> {
     }
 }
 
-fn damage(dice: &mut Dice, bytes: &mut Vec<u8>) {
+pub fn damage(dice: &mut Dice, bytes: &mut Vec<u8>) {
     for _ in 0..1 + dice.below(3) {
         let reach = if dice.percent(40) { bytes.len().min(40) } else { bytes.len() };
         let place = dice.below(reach.max(1));

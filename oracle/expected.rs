@@ -1,0 +1,94 @@
+//! What a call of the library should leave, by the crate's own answers behind the added refusals.
+use crate::asked::Asked;
+use crate::bus::Bus;
+use crate::crates::run;
+use crate::job::{parse_calls, Job};
+use crate::linked::{over, Left, OUT};
+
+/// Fields 20 and 21.
+const JOB: usize = 34;
+
+/// An answer's line: its numbers, or a refusal's number and figures.
+enum Answer {
+    Given(Vec<u32>),
+    Refused(Vec<u32>),
+}
+
+struct Answered<'a> {
+    bus: Bus<'a>,
+    number: u32,
+    five: Vec<u32>,
+    cells: Vec<u32>,
+}
+
+/// The job of one init that these bytes begin with, and its tape.
+fn job(asked: &Asked) -> Option<Job> {
+    let job = parse_calls(&[asked.job.get(..JOB)?, &[0x3F, 0, 0], &asked.tape].concat())?;
+    matches!(job.calls[..], [(0x21, _)]).then_some(job)
+}
+
+fn numbers(words: &[&str]) -> Option<Vec<u32>> {
+    words.iter().map(|word| word.parse().ok()).collect()
+}
+
+/// The line of the last call's answer taken apart; one that is no answer as it is.
+fn answer(text: &str) -> Result<Answer, String> {
+    let line = text.lines().filter(|line| !line.starts_with("record ")).last().unwrap_or("");
+    let words: Vec<&str> = line.split(' ').collect();
+    let answer = match words[..] {
+        ["init", "range", range, "scd", scd, "ocd", ocd, "uv", uv, "ov", ov] => numbers(&[range, scd, ocd, uv, ov]).map(Answer::Given),
+        ["cells", ref cells @ ..] => numbers(cells).map(Answer::Given),
+        ["refused", ref refusal @ ..] => numbers(refusal).map(Answer::Refused),
+        _ => None,
+    };
+    answer.ok_or(line.to_string())
+}
+
+fn ran<'a>(job: &Job, log: usize, overflow_checks: bool) -> Result<(Bus<'a>, Answer), String> {
+    let mut bus = Bus { log_size: log, ..Bus::of(job) };
+    let answer = answer(&run(job, &mut bus, overflow_checks))?;
+    Ok((bus, answer))
+}
+
+/// A refusal's five numbers: the count of its figures, those, and 0.
+fn refused<'a>(bus: Bus<'a>, refusal: &[u32]) -> Answered<'a> {
+    let mut five = vec![refusal.len() as u32 - 1];
+    five.extend(&refusal[1..]);
+    five.resize(5, 0);
+    Answered { bus, number: refusal[0], five, cells: vec![] }
+}
+
+/// The init, and where it is accepted and a list lent, both calls from the start.
+fn answered<'a>(asked: &Asked, overflow_checks: bool) -> Result<Answered<'a>, String> {
+    let Some(mut job) = job(asked) else { return Ok(refused(Bus::new(false, &[]), &[15])) };
+    let (bus, init) = ran(&job, asked.log, overflow_checks)?;
+    let five = match init {
+        Answer::Given(five) => five,
+        Answer::Refused(refusal) => return Ok(refused(bus, &refusal)),
+    };
+    let Some(list) = asked.list else { return Ok(Answered { bus, number: 0, five, cells: vec![] }) };
+    job.calls.push((0x22, vec![(list / 4) as u8]));
+    let (bus, reading) = ran(&job, asked.log, overflow_checks)?;
+    Ok(match reading {
+        Answer::Given(cells) => Answered { bus, number: 0, five, cells },
+        Answer::Refused(refusal) => refused(bus, &refusal),
+    })
+}
+
+/// What should be left, by the build with overflow checks or the one without; or what the crate does that is no answer.
+pub fn expected(asked: &Asked, overflow_checks: bool) -> Result<Left, String> {
+    let Answered { bus, number, five, cells } = answered(asked, overflow_checks)?;
+    let bytes = |numbers: &[u32]| numbers.iter().flat_map(|n| n.to_be_bytes()).collect::<Vec<u8>>();
+    let used = [bus.at as u64, bus.log_at() as u64].map(|used| used.to_be_bytes()).concat();
+    Ok(Left {
+        number: number as u8,
+        out: over(&[used, bytes(&five)].concat(), OUT),
+        log: over(&bus.log, asked.log),
+        list: over(&bytes(&cells), asked.list.unwrap_or(0)),
+    })
+}
+
+/// The log's fields then.
+pub fn log(asked: &Asked) -> Vec<u8> {
+    answered(asked, true).map_or(vec![], |answered| answered.bus.log)
+}
