@@ -61,6 +61,10 @@ pub record Bus : Type 0 where
   pub log : List ℕ
   pub at : Cursor
 
+-- nothing of either used
+abbrev pub start : Cursor
+start = record { tape = 0; log = 0 }
+
 abbrev pub busOf : List ℕ → List ℕ → Cursor → Bus
 busOf tape log at = record { tape = tape; log = log; at = at }
 

@@ -7,17 +7,13 @@ use lib.Dec.{eqb}
 use lib.IntN.{ℤ}
 use lib.ListN.{replicate}
 use Rattle.signed.specs.Numbers.{asU32, asI8}
-use Rattle.refusals.specs.Refusal.{Answer, value, refused}
+use Rattle.refusals.specs.Refusal.{Answer, value, refused, numberOf}
 use Rattle.bus.specs.Programs.{Ran}
 use Rattle.bus.specs.Raw.{Read}
 use Rattle.bus.specs.declared.Cursor.{Cursor}
 use Rattle.bus.specs.declared.raw.Setup.{Setup}
 use Rattle.bq769x0.specs.declared.BQ769x0.{BQ769x0}
 use Rattle.measuring.specs.Cells.{Filled}
-
--- tape and log unused
-abbrev pub start : Cursor
-start = record { tape = 0; log = 0 }
 
 abbrev pub setupBy : ℕ → ℕ → Bool → Setup
 setupBy x address check = record { address = address; check = check; x = x }
@@ -35,11 +31,6 @@ recordBy x n address check gain b51 shunt = record {
   «cell_count» = n;
   cells = replicate 15 (record { 0 = 0 });
 }
-
--- 0 where accepted, else the refusal's
-abbrev pub numberOf : {A : Type 0} → Answer A → ℕ
-numberOf (value a) = 0
-numberOf (refused r) = r .number
 
 -- the current, below zero as 2^32 less its size; 0 where there is none
 abbrev pub flowOf : Answer ℤ → ℕ

@@ -2,13 +2,14 @@
 // tape and log are then used, and the current.
 ghost use mathlib.Core.Path.{_≡_};
 ghost use mathlib.Core.List.{[]};
+ghost use Rattle.refusals.specs.Refusal.{numberOf};
 ghost use Rattle.adc.specs.Conversion.{asCurrent};
-ghost use Rattle.bus.specs.Transfers.{busOf};
+ghost use Rattle.bus.specs.Transfers.{start, busOf};
 ghost use Rattle.bus.specs.Programs.{onTape};
 ghost use Rattle.bus.specs.Raw.{asRaw, readRaw};
 ghost use Rattle.measuring.specs.Cells.{cellVoltages};
 ghost use Rattle.measuring.specs.Pack.{current};
-ghost use Rattle.entries.specs.Entries.{start, setupBy, recordBy, numberOf, flowOf, outOf, given, asRead, asCells, asFlow};
+ghost use Rattle.entries.specs.Entries.{setupBy, recordBy, flowOf, outOf, given, asRead, asCells, asFlow};
 use adc::counter::CurrentAnswer;
 use bq769x0::BQ769x0;
 use bus::Cursor;

@@ -19,7 +19,7 @@ use Rattle.settings.specs.Steps.{shuntFor, stepsFor}
 use Rattle.settings.specs.Trips.{tripCodeFor, obtainableOr, withinFor}
 use Rattle.job.specs.Jobs.{isDevice, codesAt, isJob, jobOf}
 use Rattle.bus.specs.Fields.{field, unfield}
-use Rattle.bus.specs.Transfers.{logField, tapeField, wanted, untape, says, busOf, moved, after, answered, outcome}
+use Rattle.bus.specs.Transfers.{logField, tapeField, wanted, untape, says, start, busOf, moved, after, answered, outcome}
 use Rattle.bus.specs.Programs.{ran, onTape, bind, proceed, _>>=_}
 use Rattle.bus.specs.Raw.{plainly, plainRead, readRaw, readBytes, wrote, askWrite, send, compared, verified, askBack, writeRaw}
 use Rattle.bq769x0.specs.Record.{deviceFor, fresh, leaves, newFor, isSound, withCalibration, withShunt}
@@ -27,7 +27,7 @@ use Rattle.bq769x0.specs.Registers.{soundly}
 use Rattle.bq769x0.specs.Calibrate.{calibrate}
 use Rattle.bq769x0.specs.Init.{onwardBy, onward, counting, setting, initBy}
 use Rattle.bq769x0.specs.declared.BQ769x0.{BQ769x0}
-use Rattle.firmware.specs.JobInit.{start, jobInit}
+use Rattle.firmware.specs.JobInit.{jobInit}
 
 abbrev job : List ℕ
 job =

@@ -10,15 +10,10 @@ use Rattle.job.specs.Jobs.{jobOf, asJob}
 use Rattle.job.specs.declared.Device.{Device}
 use Rattle.job.specs.declared.JobAnswer.{JobAnswer}
 use Rattle.bus.specs.Programs.{Prog, ret, _orLeave_, _>>=_}
-use Rattle.bus.specs.declared.Cursor.{Cursor}
 use Rattle.bq769x0.specs.Record.{Left, leaving, fresh, asMade, newFor}
 use Rattle.bq769x0.specs.Init.{refusalOf, initBy}
 use Rattle.bq769x0.specs.declared.BQ769x0.{BQ769x0}
 use Rattle.bq769x0.specs.declared.record.NewAnswer.{NewAnswer}
-
--- tape and log unused
-abbrev pub start : Cursor
-start = record { tape = 0; log = 0 }
 
 -- no device: one of size 0, on which every call is refused
 abbrev pub noDevice : BQ769x0

@@ -3,9 +3,9 @@
 -- Assumes nothing.
 use Prim.Native.Nat.{ℕ, _/_, _%_}
 use mathlib.Core.List.{List, _++_}
-use Rattle.refusals.specs.Refusal.{Answer}
+use Rattle.refusals.specs.Refusal.{Answer, numberOf}
 use Rattle.settings.specs.Plan.{Values}
-use Rattle.settings.specs.Told.{numberOf, figuresOf}
+use Rattle.settings.specs.Told.{figuresOf}
 use Rattle.settings.specs.declared.told.Five.{Five}
 use Rattle.job.specs.Encoding.{four}
 use Rattle.bus.specs.Programs.{Ran}

@@ -1,10 +1,10 @@
 // Setting up for C: a job, a tape and a log in, a number and 36 bytes out.
 ghost use mathlib.Core.Path.{_≡_};
-ghost use Rattle.bus.specs.Transfers.{busOf};
+ghost use Rattle.bus.specs.Transfers.{start, busOf};
 ghost use Rattle.bus.specs.Programs.{onTape, ran};
 ghost use Rattle.settings.specs.Plan.{asInit};
 ghost use Rattle.bq769x0.specs.Record.{leaves};
-ghost use Rattle.firmware.specs.JobInit.{asNoJob, asNoDevice, start, jobInit};
+ghost use Rattle.firmware.specs.JobInit.{asNoJob, asNoDevice, jobInit};
 ghost use Rattle.firmware.specs.Layout.{handed, asC};
 ghost use Rattle.firmware.specs.JobCells.{listed, jobCells, asList};
 use crate::cells::read_cells;

@@ -28,6 +28,11 @@ abbrev pub answering : {A B : Type 0} → Answer A → B → Answer B
 answering (value a) b = value b
 answering (refused r) b = refused r
 
+-- 0 where accepted, else the refusal's
+abbrev pub numberOf : {A : Type 0} → Answer A → ℕ
+numberOf (value a) = 0
+numberOf (refused r) = r .number
+
 -- a refusal without figures where a test holds, and else what follows
 abbrev pub refusedIf : {A : Type 0} → Bool → ℕ → Answer A → Answer A
 refusedIf true n answer = refused (no n [])

@@ -1,4 +1,4 @@
--- What `init` answers, in numbers: 0 or the refusal's number, and five figures.
+-- What `init` answers, in five figures.
 -- Assumes nothing.
 use Prim.Native.Nat.{ℕ}
 use lib.IntN.{pos}
@@ -9,11 +9,6 @@ use Rattle.protection.specs.declared.range.OCDSCDRange.{OCDSCDRange}
 use Rattle.protection.specs.declared.range.OCDSCDRange.the-variants as R
 use Rattle.settings.specs.Plan.{Values}
 use Rattle.settings.specs.declared.told.Five.{Five}
-
--- 0 where accepted, else the refusal's
-abbrev pub numberOf : Answer Values → ℕ
-numberOf (value v) = 0
-numberOf (refused r) = r .number
 
 abbrev pub rangeNumber : OCDSCDRange → ℕ
 rangeNumber R.Lower = 0

@@ -1,7 +1,8 @@
 // What `init` answers, in numbers.
 ghost use mathlib.Core.Path.{_≡_};
+ghost use Rattle.refusals.specs.Refusal.{numberOf};
 ghost use Rattle.settings.specs.Plan.{asInit};
-ghost use Rattle.settings.specs.Told.{rangeNumber, numberOf, figuresOf};
+ghost use Rattle.settings.specs.Told.{rangeNumber, figuresOf};
 use crate::InitAnswer;
 use protection::range::OCDSCDRange;
 
