@@ -14,6 +14,7 @@
 #define BUS const uint8_t *tape, size_t tape_len, uint8_t *log, size_t log_len, size_t out[3]
 
 uint8_t entry_cells(RECORD, uint32_t *list, size_t list_len, BUS);
+uint8_t entry_wired(RECORD, uint8_t *inputs, size_t inputs_len, uint32_t *list, size_t list_len, BUS);
 uint8_t entry_current(RECORD, BUS);
 uint8_t entry_read_raw(uint8_t x, uint8_t address, bool check, uint8_t reg, uint8_t *data, size_t data_len, BUS);
 

@@ -13,9 +13,10 @@ enum { ADDRESS = 8, CELLS = 15, GAIN = 380, B51 = 0xEC, SHUNT = 1000, FILL = 0xC
 static uint8_t job[34] = {0x20, 0, 4, 5, 5, ADDRESS, 0, 0x21, 0, 24, 0, 0, 3, 0xE8, 0, 0, 0, 50, 0, 0, 0, 20,
                           0, 0, 0x0A, 0xF0, 0, 0, 0x10, 0x68, 2, 5, 1, 1};
 static uint8_t tape[256], log_[128], list[4 * CELLS], data[2 * CELLS], out[BQ769X0_OUT];
+static uint8_t fitted[CELLS];
 static uint32_t numbers[CELLS];
 static size_t tape_len, ends[3];
-static int inputs = CELLS; /* of the device */
+static int inputs = CELLS, cells = CELLS; /* of the device, of the pack */
 
 static uint8_t crc(uint8_t sum, uint8_t byte) {
     sum ^= byte;
@@ -72,7 +73,8 @@ static int call(const char *name, int check) {
         return bq769x0_init(job, sizeof job, tape, tape_len, log_, sizeof log_, out);
     }
     if (strcmp(name, "init_cells") == 0) {
-        job[3] = job[4] = (uint8_t)inputs;
+        job[3] = (uint8_t)inputs;
+        job[4] = (uint8_t)cells;
         job[6] = (uint8_t)check;
         init_tape(check);
         cells_tape(check);
@@ -80,12 +82,19 @@ static int call(const char *name, int check) {
     }
     if (strcmp(name, "cells") == 0) {
         cells_tape(check);
-        return entry_cells((uint8_t)inputs, (uint8_t)inputs, ADDRESS, check, GAIN, B51, SHUNT, numbers, (size_t)inputs, tape, tape_len, log_,
+        return entry_cells((uint8_t)inputs, (uint8_t)cells, ADDRESS, check, GAIN, B51, SHUNT, numbers, (size_t)cells, tape, tape_len, log_,
                            sizeof log_, ends);
     }
+#ifdef WIRED
+    if (strcmp(name, "wired") == 0) {
+        cells_tape(check);
+        return entry_wired((uint8_t)inputs, (uint8_t)cells, ADDRESS, check, GAIN, B51, SHUNT, fitted, (size_t)cells, numbers, (size_t)cells, tape,
+                           tape_len, log_, sizeof log_, ends);
+    }
+#endif
     if (strcmp(name, "current") == 0) {
         done(check, discharging, 2);
-        return entry_current((uint8_t)inputs, (uint8_t)inputs, ADDRESS, check, GAIN, B51, SHUNT, tape, tape_len, log_, sizeof log_, ends);
+        return entry_current((uint8_t)inputs, (uint8_t)cells, ADDRESS, check, GAIN, B51, SHUNT, tape, tape_len, log_, sizeof log_, ends);
     }
     if (strcmp(name, "read_raw") == 0) {
         cells_tape(check);
@@ -94,11 +103,12 @@ static int call(const char *name, int check) {
     return 256;
 }
 
-/* harness CALL plain|check 5|10|15: an init alone is the scope's, of a BQ76920 */
+/* harness CALL plain|check 5|10|15 [CELLS]: a pack of as many cells as inputs where no count is given; an init alone is the scope's, of a BQ76920 */
 int main(int argc, char **argv) {
-    if (argc != 4) return 2;
+    if (argc != 4 && argc != 5) return 2;
     inputs = atoi(argv[3]);
-    if (inputs < 1 || CELLS < inputs) return 2;
+    cells = argc == 5 ? atoi(argv[4]) : inputs;
+    if (inputs < 1 || CELLS < inputs || cells < 1 || CELLS < cells) return 2;
     memset(log_, FILL, sizeof log_);
     memset(list, FILL, sizeof list);
     memset(data, FILL, sizeof data);
@@ -110,6 +120,7 @@ int main(int argc, char **argv) {
     show("list", list, sizeof list);
     show("data", data, sizeof data);
     show("out", out, sizeof out);
+    show("fitted", fitted, sizeof fitted);
     show("numbers", numbers, sizeof numbers);
     show("ends", ends, sizeof ends);
     return 0;

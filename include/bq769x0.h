@@ -1,8 +1,8 @@
 /*
  * A driver for the battery monitors BQ76920, BQ76930 and BQ76940 that is proved: setting one up by a job, alone or with a
- * reading of its cells after it.
+ * reading of its cells after it; and which cell of a pack sits on an input.
  *
- * Both functions work on bytes in memory and touch nothing else: they read what the bus answered from a tape and write what they
+ * All functions work on bytes in memory and touch nothing else: they read what the bus answered from a tape and write what they
  * sent into a log. Every number in a buffer stands with its high byte first.
  *
  *   job   field 20, the device, and field 21, the configuration: 34 bytes; more are not looked at
@@ -14,6 +14,7 @@
  *         register and two bytes of count. An init takes 52 bytes of it, 45 with check bytes, a cell reading 7 more; bytes that
  *         no field takes are left as they were
  *   list  four bytes a cell, in mV, below zero as 2^32 less the size; bytes past the count of cells are left as they were
+ *   inputs  a byte a cell: the input, from 1, that the cell beside it in list sits on; bytes past the count are left as they were
  *   out   BQ769X0_OUT bytes, all written whatever the answer
  *
  * No two buffers overlap, but that job and tape, which are only read, may. A buffer of length 0 may have any pointer.
@@ -42,7 +43,8 @@ extern "C" {
  */
 #define BQ769X0_OUT 36
 
-/* What the functions return. A refusal leaves list as it was, and in log the transfers made before it, the faulted one included. */
+/* What the functions return. A refusal leaves list, inputs and cell as they were, and in log the transfers made before it, the
+ * faulted one included. */
 enum bq769x0_refusal {
     BQ769X0_OK = 0,
     BQ769X0_CRC_MISMATCH = 1,         /* a check byte of a read disagrees */
@@ -63,16 +65,27 @@ enum bq769x0_refusal {
     BQ769X0_TAPE_ENDED = 16,          /* no field left for a transfer */
     BQ769X0_LOG_FULL = 17,            /* no room for the transfer's field */
     BQ769X0_UNKNOWN_FLAGS = 18,       /* a status reset with bit 6 */
-    BQ769X0_NO_ROOM = 19,             /* list is shorter than the count of cells */
-    BQ769X0_UNKNOWN_RANGE = 20        /* a code asked for range Unknown; neither function gives it */
+    BQ769X0_NO_ROOM = 19,             /* list or inputs is shorter than the count of cells */
+    BQ769X0_UNKNOWN_RANGE = 20,       /* a code asked for range Unknown; no function gives it */
+    BQ769X0_NO_SUCH_INPUT = 21        /* no cell of the pack sits on that input: 0, a shorted one, or one over X */
 };
 
 /* Sets the device up. */
 uint8_t bq769x0_init(const uint8_t *job, size_t job_len, const uint8_t *tape, size_t tape_len, uint8_t *log, size_t log_len,
                      uint8_t out[BQ769X0_OUT]);
 
-/* Sets the device up and, where that is accepted, reads its cells into list. out is as after bq769x0_init, the positions after
+/* Sets the device up and, where that is accepted, reads its cells by the datasheet's wiring: each fitted input once, the bottom
+ * of the pack first, its number in inputs and its voltage beside it in list. out is as after bq769x0_init, the positions after
  * the reading. */
+uint8_t bq769x0_init_wired(const uint8_t *job, size_t job_len, const uint8_t *tape, size_t tape_len, uint8_t *log, size_t log_len,
+                           uint8_t *inputs, size_t inputs_len, uint8_t *list, size_t list_len, uint8_t out[BQ769X0_OUT]);
+
+/* The cell, from 1, bottom of the pack first, that sits on an input of a device with X inputs (5, 10 or 15) and so many cells:
+ * BQ769X0_BAD_DEVICE, BQ769X0_BAD_CELL_COUNT, BQ769X0_NO_SUCH_INPUT. */
+uint8_t bq769x0_cell_on(uint8_t x, uint8_t cells, uint8_t input, uint8_t cell[1]);
+
+/* As bq769x0_init_wired, with the list of the Rust crate bq769x0 0.3.1, without the inputs: on ten of the fifteen packs that list
+ * shows other inputs than the datasheet's wiring has, and leaves out at least one that carries a cell. */
 uint8_t bq769x0_init_cells(const uint8_t *job, size_t job_len, const uint8_t *tape, size_t tape_len, uint8_t *log, size_t log_len,
                            uint8_t *list, size_t list_len, uint8_t out[BQ769X0_OUT]);
 

@@ -6,24 +6,28 @@ use crate::make::{damage, device, dice, ends, init, tape, Dice};
 /// More than any call takes of a log.
 const LONGEST_LOG: usize = 130;
 
-/// What a call is given: the two texts, the log's size, and for `bq769x0_init_cells` the list's.
+/// What a call is given: the two texts, the log's size, for `bq769x0_init_cells` and `bq769x0_init_wired` the list's, and for the latter that of
+/// the inputs.
 #[derive(Clone)]
 pub struct Asked {
     pub job: Vec<u8>,
     pub tape: Vec<u8>,
     pub log: usize,
     pub list: Option<usize>,
+    pub inputs: Option<usize>,
 }
 
-/// The call of this index; every second reads the cells too.
+/// The call of this index: by turns of the three functions.
 pub fn asked(seed: u64, index: u64) -> Asked {
     let dice = &mut dice(seed, index);
     let device = device(dice);
     let chip = [dice.byte(), dice.byte(), dice.byte()];
     let job = [field_of(0x20, &device), field_of(0x21, &init(dice, &chip))].concat();
-    let (reading, list) = if index % 2 == 0 { (vec![], None) } else { (field_of(0x22, &[15]), Some(list_size(dice, device[1]))) };
+    let list = (index % 3 > 0).then(|| list_size(dice, device[1]));
+    let inputs = (index % 3 > 1).then(|| inputs_size(dice, device[1]));
+    let reading = if list.is_none() { vec![] } else { field_of(0x22, &[15]) };
     let tape = tape(dice, &[&job[..], &reading, &[0x3F, 0, 0]].concat(), chip);
-    let mut asked = Asked { job, tape, log: LONGEST_LOG, list };
+    let mut asked = Asked { job, tape, log: LONGEST_LOG, list, inputs };
     spoil(dice, &mut asked);
     asked.log = log_size(dice, &asked);
     asked
@@ -52,6 +56,18 @@ fn list_size(dice: &mut Dice, cells: u8) -> usize {
         _ => 60 + dice.below(11),
     }
     .min(70)
+}
+
+/// A byte a cell, or fewer, or more.
+fn inputs_size(dice: &mut Dice, cells: u8) -> usize {
+    let exact = cells as usize;
+    match dice.below(10) {
+        0 => dice.below(21),
+        1 => exact.saturating_sub(1),
+        2..=6 => exact,
+        _ => 15 + dice.below(6),
+    }
+    .min(20)
 }
 
 /// What the call takes of the log; or to the end of one of its fields, or a byte less; or any.

@@ -1,6 +1,8 @@
 // A job on the crate, behind the added refusals. Included once for each build of the crate, which is `bq` here.
-use crate::bus::{lines, Bus};
-use crate::crates::printed::{end, numbers, unsound, Lent};
+use crate::bus::{lines, Bus, Transfer};
+use crate::crates::chip::Chip;
+use crate::crates::printed::{cell_on, end, numbers, unsound, Lent};
+use crate::crates::wiring::fitted;
 use crate::job::{is_sound, Job, Kept};
 use bq::*;
 use std::panic::{catch_unwind, AssertUnwindSafe};
@@ -103,6 +105,8 @@ where
             0x30 => device.temperature_source(bus).map(|s| format!("source {}", source_name(s))),
             0x31 => device.coulomb_counter_mode(bus, mode(value[0])).map(done),
             0x32 => device.read_raw(bus, value[0], &mut lent.data).map(done),
+            0x34 => return self.wired(lent),
+            0x35 => return cell_on(value),
             _ => device.write_raw(bus, value[0], &value[1..]).map(done),
         }
         .map_err(number)
@@ -130,6 +134,41 @@ where
         let cells: Vec<u32> = cells.iter().map(|cell| cell.0).collect();
         list[..cells.len()].copy_from_slice(&cells);
         Ok(format!("cells{}", numbers(&cells)))
+    }
+
+    /// 19 in front, where the crate would not answer 4. The read and what is kept are the crate's; of the reply each fitted input's voltage.
+    fn wired(&mut self, lent: &mut Lent) -> Result<String, String> {
+        let count = self.job.cells as usize;
+        if self.device.is_initialized() && lent.inputs.len().min(lent.list.len()) < count {
+            return Err("19".to_string());
+        }
+        let reply = self.bus.at + 3;
+        self.device.cell_voltages(self.bus).map_err(number)?;
+        let voltages = self.by_input(&self.bus.tape[reply..self.bus.at]);
+        let mut line = "wired".to_string();
+        for (place, input) in fitted(X, count).into_iter().enumerate() {
+            (lent.inputs[place], lent.list[place]) = (input as u8, voltages[input - 1]);
+            line += &format!(" {input} {}", voltages[input - 1]);
+        }
+        Ok(line)
+    }
+
+    /// All inputs' voltages from a read's reply: five at a time, by the crate's own call for a BQ76920 of five cells, which moves none.
+    fn by_input(&self, reply: &[u8]) -> Vec<u32> {
+        let bytes: Vec<u8> = reply.iter().step_by(1 + self.job.check as usize).copied().collect();
+        bytes.chunks(10).flat_map(|block| self.five(block)).collect()
+    }
+
+    fn five(&self, block: &[u8]) -> Vec<u32> {
+        let registers: Vec<(u8, u8)> = (0x0C..).zip(block.iter().copied()).collect();
+        let mut chip = Chip::new(self.job.check, &registers);
+        let mut feed = |asked: &Transfer| chip.field(asked);
+        let mut bus = Bus::new(self.job.check, &[]);
+        bus.feed = Some(&mut feed);
+        let mut device = BQ769x0::<5>::new(8, 5).expect("a device");
+        let (gain, offset) = (self.device.adc_gain(), self.device.adc_offset());
+        device.keep(true, gain, offset, MicroOhms(1), std::array::from_fn(|_| MilliVolts(0)));
+        device.cell_voltages(&mut bus).map_err(number).expect("a reading").iter().map(|cell| cell.0).collect()
     }
 
     /// 4 in front.

@@ -2,8 +2,12 @@
 use crate::bus::Bus;
 use crate::job::{parse, Job};
 
+#[path = "chip.rs"]
+pub mod chip;
 #[path = "printed.rs"]
 pub mod printed;
+#[path = "wiring.rs"]
+pub mod wiring;
 
 pub mod plain_checked {
     use bq_plain_checked as bq;

@@ -1,7 +1,7 @@
 //! What a call of the library should leave, by the crate's own answers behind the added refusals.
 use crate::asked::Asked;
 use crate::bus::Bus;
-use crate::crates::run;
+use crate::crates::{run, wiring};
 use crate::job::{parse_calls, Job};
 use crate::linked::{over, Left, OUT};
 
@@ -18,6 +18,7 @@ struct Answered<'a> {
     bus: Bus<'a>,
     number: u32,
     five: Vec<u32>,
+    inputs: Vec<u8>,
     cells: Vec<u32>,
 }
 
@@ -37,7 +38,7 @@ fn answer(text: &str) -> Result<Answer, String> {
     let words: Vec<&str> = line.split(' ').collect();
     let answer = match words[..] {
         ["init", "range", range, "scd", scd, "ocd", ocd, "uv", uv, "ov", ov] => numbers(&[range, scd, ocd, uv, ov]).map(Answer::Given),
-        ["cells", ref cells @ ..] => numbers(cells).map(Answer::Given),
+        ["cells" | "wired", ref cells @ ..] => numbers(cells).map(Answer::Given),
         ["refused", ref refusal @ ..] => numbers(refusal).map(Answer::Refused),
         _ => None,
     };
@@ -55,7 +56,7 @@ fn refused<'a>(bus: Bus<'a>, refusal: &[u32]) -> Answered<'a> {
     let mut five = vec![refusal.len() as u32 - 1];
     five.extend(&refusal[1..]);
     five.resize(5, 0);
-    Answered { bus, number: refusal[0], five, cells: vec![] }
+    Answered { bus, number: refusal[0], five, inputs: vec![], cells: vec![] }
 }
 
 /// The init, and where it is accepted and a list lent, both calls from the start.
@@ -66,26 +67,40 @@ fn answered<'a>(asked: &Asked, overflow_checks: bool) -> Result<Answered<'a>, St
         Answer::Given(five) => five,
         Answer::Refused(refusal) => return Ok(refused(bus, &refusal)),
     };
-    let Some(list) = asked.list else { return Ok(Answered { bus, number: 0, five, cells: vec![] }) };
-    job.calls.push((0x22, vec![(list / 4) as u8]));
+    let Some(list) = asked.list else { return Ok(Answered { bus, number: 0, five, inputs: vec![], cells: vec![] }) };
+    let cells = (list / 4) as u8;
+    job.calls.push(asked.inputs.map_or((0x22, vec![cells]), |inputs| (0x34, vec![inputs as u8, cells])));
     let (bus, reading) = ran(&job, asked.log, overflow_checks)?;
     Ok(match reading {
-        Answer::Given(cells) => Answered { bus, number: 0, five, cells },
+        Answer::Given(given) if asked.inputs.is_some() => {
+            let (inputs, cells) = given.chunks(2).map(|pair| (pair[0] as u8, pair[1])).unzip();
+            Answered { bus, number: 0, five, inputs, cells }
+        }
+        Answer::Given(cells) => Answered { bus, number: 0, five, inputs: vec![], cells },
         Answer::Refused(refusal) => refused(bus, &refusal),
     })
 }
 
 /// What should be left, by the build with overflow checks or the one without; or what the crate does that is no answer.
 pub fn expected(asked: &Asked, overflow_checks: bool) -> Result<Left, String> {
-    let Answered { bus, number, five, cells } = answered(asked, overflow_checks)?;
+    let Answered { bus, number, five, inputs, cells } = answered(asked, overflow_checks)?;
     let bytes = |numbers: &[u32]| numbers.iter().flat_map(|n| n.to_be_bytes()).collect::<Vec<u8>>();
     let used = [bus.at as u64, bus.log_at() as u64].map(|used| used.to_be_bytes()).concat();
     Ok(Left {
         number: number as u8,
         out: over(&[used, bytes(&five)].concat(), OUT),
         log: over(&bus.log, asked.log),
+        inputs: over(&inputs, asked.inputs.unwrap_or(0)),
         list: over(&bytes(&cells), asked.list.unwrap_or(0)),
     })
+}
+
+/// The same of which cell sits on an input, by the rule written here.
+pub fn cell_on(x: u8, cells: u8, input: u8) -> (u8, Vec<u8>) {
+    match wiring::cell_on(x, cells, input) {
+        Ok(cell) => (0, over(&[cell], 1)),
+        Err(number) => (number, over(&[], 1)),
+    }
 }
 
 /// The log's fields then.

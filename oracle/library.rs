@@ -25,7 +25,7 @@ fn differs(asked: &Asked) -> bool {
     [true, false].iter().any(|overflow_checks| expected(asked, *overflow_checks) != ours)
 }
 
-/// A smaller call that still differs: its tape, its job, its log, its list.
+/// A smaller call that still differs: its tape, its job, its log, its lists.
 fn smaller(asked: Asked) -> Asked {
     let tape = least(&asked.tape, &|tape| differs(&Asked { tape: tape.to_vec(), ..asked.clone() }));
     let asked = Asked { tape, ..asked };
@@ -34,16 +34,24 @@ fn smaller(asked: Asked) -> Asked {
     let log = (0..=asked.log).find(|log| differs(&Asked { log: *log, ..asked.clone() }));
     let asked = Asked { log: log.unwrap_or(asked.log), ..asked };
     let list = asked.list.and_then(|most| (0..=most).find(|list| differs(&Asked { list: Some(*list), ..asked.clone() })));
-    Asked { list, ..asked }
+    let asked = Asked { list, ..asked };
+    let inputs = asked.inputs.and_then(|most| (0..=most).find(|inputs| differs(&Asked { inputs: Some(*inputs), ..asked.clone() })));
+    Asked { inputs, ..asked }
 }
 
-fn name(asked: &Asked) -> &'static str {
-    if asked.list.is_none() { "bq769x0_init" } else { "bq769x0_init_cells" }
+const NAMES: [&str; 3] = ["bq769x0_init", "bq769x0_init_cells", "bq769x0_init_wired"];
+
+/// Which of the three functions is called.
+fn kind(asked: &Asked) -> usize {
+    asked.list.is_some() as usize + asked.inputs.is_some() as usize
 }
 
 fn text(left: &Result<Left, String>) -> String {
     match left {
-        Ok(left) => format!("number {}\nout{}\nlog{}\nlist{}", left.number, hex(&left.out), hex(&left.log), hex(&left.list)),
+        Ok(left) => {
+            let lists = format!("inputs{}\nlist{}", hex(&left.inputs), hex(&left.list));
+            format!("number {}\nout{}\nlog{}\n{lists}", left.number, hex(&left.out), hex(&left.log))
+        }
         Err(line) => line.clone(),
     }
 }
@@ -51,27 +59,43 @@ fn text(left: &Result<Left, String>) -> String {
 fn report(asked: Asked) -> ! {
     let least = smaller(asked);
     let [ours, checked, wrapping] = [Ok(call(&least)), expected(&least, true), expected(&least, false)].map(|left| text(&left));
-    println!("a difference; the smallest call of {} that shows it:\njob{}\ntape{}", name(&least), hex(&least.job), hex(&least.tape));
-    println!("log of {} bytes, list of {}; each buffer below with its margins", least.log, least.list.unwrap_or(0));
+    println!("a difference; the smallest call of {} that shows it:\njob{}\ntape{}", NAMES[kind(&least)], hex(&least.job), hex(&least.tape));
+    let (inputs, list) = (least.inputs.unwrap_or(0), least.list.unwrap_or(0));
+    println!("log of {} bytes, inputs of {inputs}, list of {list}; each buffer below with its margins", least.log);
     println!("the library:\n{ours}\nthe crate with overflow checks:\n{checked}\nwithout:\n{wrapping}");
     exit(1);
+}
+
+/// Every X, count and input.
+fn each_cell_on() {
+    for n in 0..1u32 << 24 {
+        let [_, x, cells, input] = n.to_be_bytes();
+        let (ours, should) = (linked::cell_on(x, cells, input), expected::cell_on(x, cells, input));
+        if ours != should {
+            println!("library: bq769x0_cell_on of {x}, {cells}, {input}: {ours:?}, and by the rule of the blocks {should:?}");
+            exit(1);
+        }
+    }
+    println!("library: bq769x0_cell_on of all 16,777,216 numbers X, count and input, by the rule of the blocks: no difference");
 }
 
 fn main() {
     let arguments: Vec<String> = std::env::args().collect();
     let [_, seed, jobs] = &arguments[..] else { panic!("library SEED COUNT") };
     let (seed, jobs): (u64, u64) = (seed.parse().expect("a seed"), jobs.parse().expect("a count"));
-    let mut tally: BTreeMap<u8, [usize; 2]> = BTreeMap::new();
+    each_cell_on();
+    let mut tally: BTreeMap<u8, [usize; 3]> = BTreeMap::new();
     for index in 0..jobs {
         let asked = asked(seed, index);
         if differs(&asked) {
             println!("library: job {index} of seed {seed}");
             report(asked);
         }
-        tally.entry(call(&asked).number).or_default()[asked.list.is_some() as usize] += 1;
+        tally.entry(call(&asked).number).or_default()[kind(&asked)] += 1;
     }
-    let came: Vec<String> = tally.iter().map(|(number, [init, cells])| format!("{number}: {init}, {cells}")).collect();
-    println!("library: how often each number came, from the one and the other: {}", came.join("; "));
-    let [init, cells] = tally.values().fold([0, 0], |sum, times| [sum[0] + times[0], sum[1] + times[1]]);
-    println!("library: {init} jobs of bq769x0_init, {cells} of bq769x0_init_cells, by the crate with overflow checks and without: no difference");
+    let came: Vec<String> = tally.iter().map(|(number, [init, cells, wired])| format!("{number}: {init}, {cells}, {wired}")).collect();
+    println!("library: how often each number came, from each of {}: {}", NAMES.join(", "), came.join("; "));
+    let jobs = |kind: usize| tally.values().map(|times| times[kind]).sum::<usize>();
+    let counts: Vec<String> = NAMES.iter().enumerate().map(|(kind, name)| format!("{} of {name}", jobs(kind))).collect();
+    println!("library: jobs: {}, by the crate with overflow checks and without: no difference", counts.join(", "));
 }

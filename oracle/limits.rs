@@ -1,6 +1,6 @@
 // The crate with no refusal in front. Included once for each build of the crate, which is `bq` here; `calls` are its calls.
 use crate::bus::{field_of, lines, Bus, Feed, Transfer};
-use crate::chip::Chip;
+use crate::crates::chip::Chip;
 use bq::*;
 use calls::{config, number, set_up};
 use std::panic::{catch_unwind, AssertUnwindSafe};

@@ -12,6 +12,11 @@ extern "C" {
         job: *const u8, job_len: usize, tape: *const u8, tape_len: usize, log: *mut u8, log_len: usize,
         list: *mut u8, list_len: usize, out: *mut u8,
     ) -> u8;
+    fn bq769x0_init_wired(
+        job: *const u8, job_len: usize, tape: *const u8, tape_len: usize, log: *mut u8, log_len: usize,
+        inputs: *mut u8, inputs_len: usize, list: *mut u8, list_len: usize, out: *mut u8,
+    ) -> u8;
+    fn bq769x0_cell_on(x: u8, cells: u8, input: u8, cell: *mut u8) -> u8;
 }
 
 /// The number, and every byte of the buffers written, with their margins.
@@ -20,6 +25,7 @@ pub struct Left {
     pub number: u8,
     pub out: Vec<u8>,
     pub log: Vec<u8>,
+    pub inputs: Vec<u8>,
     pub list: Vec<u8>,
 }
 
@@ -33,17 +39,30 @@ pub fn over(bytes: &[u8], size: usize) -> Vec<u8> {
 /// What the library makes of a call.
 pub fn call(asked: &Asked) -> Left {
     let (job, tape) = (&asked.job[..], &asked.tape[..]);
-    let list_len = asked.list.unwrap_or(0);
-    let mut left = Left { number: 0, out: over(&[], OUT), log: over(&[], asked.log), list: over(&[], list_len) };
-    let inside = |buffer: &mut Vec<u8>| buffer[MARGIN..].as_mut_ptr();
-    let (out, log, list) = (inside(&mut left.out), inside(&mut left.log), inside(&mut left.list));
+    let (job, job_len, tape, tape_len) = (job.as_ptr(), job.len(), tape.as_ptr(), tape.len());
+    let lent = |size: Option<usize>| over(&[], size.unwrap_or(0));
+    let mut left = Left { number: 0, out: over(&[], OUT), log: over(&[], asked.log), inputs: lent(asked.inputs), list: lent(asked.list) };
+    let (out, log) = (inside(&mut left.out), inside(&mut left.log));
+    let (inputs, list) = (inside(&mut left.inputs), inside(&mut left.list));
     // Each pointer has at least its length behind it, and what is written overlaps nothing.
     left.number = unsafe {
-        if asked.list.is_none() {
-            bq769x0_init(job.as_ptr(), job.len(), tape.as_ptr(), tape.len(), log, asked.log, out)
-        } else {
-            bq769x0_init_cells(job.as_ptr(), job.len(), tape.as_ptr(), tape.len(), log, asked.log, list, list_len, out)
+        match (asked.inputs, asked.list) {
+            (Some(m), Some(n)) => bq769x0_init_wired(job, job_len, tape, tape_len, log, asked.log, inputs, m, list, n, out),
+            (_, Some(n)) => bq769x0_init_cells(job, job_len, tape, tape_len, log, asked.log, list, n, out),
+            _ => bq769x0_init(job, job_len, tape, tape_len, log, asked.log, out),
         }
     };
     left
+}
+
+fn inside(buffer: &mut [u8]) -> *mut u8 {
+    buffer[MARGIN..].as_mut_ptr()
+}
+
+/// The number of the library's answer to which cell sits on an input, and the lent byte, with its margins.
+pub fn cell_on(x: u8, cells: u8, input: u8) -> (u8, Vec<u8>) {
+    let mut cell = over(&[], 1);
+    // The pointer has its byte behind it.
+    let number = unsafe { bq769x0_cell_on(x, cells, input, inside(&mut cell)) };
+    (number, cell)
 }

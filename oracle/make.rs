@@ -192,7 +192,8 @@ fn calls(dice: &mut Dice, device: [u8; 4], chip: &Calibration, inits: usize) -> 
             _ if i == 0 && dice.percent(inits) => 0x21,
             0 => 0x22,
             1 => 0x23,
-            _ => 0x21 + dice.below(19) as u8,
+            2 => 0x34,
+            _ => 0x21 + dice.below(21) as u8,
         };
         let value = call(dice, tag, device[0] as usize, chip);
         bytes.extend(field_of(tag, &value));
@@ -240,7 +241,9 @@ pub fn device(dice: &mut Dice) -> [u8; 4] {
 fn call(dice: &mut Dice, tag: u8, x: usize, chip: &Calibration) -> Vec<u8> {
     match tag {
         0x21 => init(dice, chip),
-        0x22 => vec![if dice.percent(80) { 15 + dice.below(4) as u8 } else { dice.below(17) as u8 }],
+        0x22 => vec![room(dice)],
+        0x34 => vec![room(dice), room(dice)],
+        0x35 => question(dice),
         0x26 | 0x29 => vec![if dice.percent(80) { dice.byte() & 0xBF } else { dice.byte() }],
         0x2A | 0x2B | 0x2E | 0x2F => vec![dice.below(2) as u8],
         0x31 => vec![dice.below(3) as u8],
@@ -261,6 +264,17 @@ fn call(dice: &mut Dice, tag: u8, x: usize, chip: &Calibration) -> Vec<u8> {
         }
         _ => Vec::new(),
     }
+}
+
+/// The length of a lent list: mostly enough for any pack.
+fn room(dice: &mut Dice) -> u8 {
+    if dice.percent(80) { 15 + dice.below(4) as u8 } else { dice.below(17) as u8 }
+}
+
+/// A pack, mostly one that there is, and an input.
+fn question(dice: &mut Dice) -> Vec<u8> {
+    let [x, cells, ..] = device(dice);
+    vec![x, cells, if dice.percent(90) { dice.below(17) as u8 } else { dice.byte() }]
 }
 
 /// A register for a transfer of so many bytes: often one near which it would pass FF.

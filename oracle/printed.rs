@@ -1,32 +1,39 @@
 //! The lines of a job that no build of the crate writes: what was lent, the record, the log.
 use crate::bus::{hex, Bus};
+use super::wiring;
 use crate::job::{Job, Kept};
 
-/// What a call lends: read_raw's bytes and the cell call's list.
+/// What a call lends: read_raw's bytes and the cell calls' lists.
 pub struct Lent {
     pub data: Vec<u8>,
+    pub inputs: Vec<u8>,
     pub list: Vec<u32>,
 }
 
 impl Lent {
     pub fn new(tag: u8, value: &[u8]) -> Lent {
-        let data = if tag == 0x32 { u16::from_be_bytes([value[1], value[2]]) } else { 0 };
-        let list = if tag == 0x22 { value[0] } else { 0 };
-        Lent { data: vec![0xAA; data as usize], list: vec![u32::MAX; list as usize] }
+        let (data, inputs, list) = match tag {
+            0x22 => (0, 0, value[0]),
+            0x32 => (u16::from_be_bytes([value[1], value[2]]), 0, 0),
+            0x34 => (0, value[0], value[1]),
+            _ => (0, 0, 0),
+        };
+        Lent { data: vec![0xAA; data as usize], inputs: vec![255; inputs as usize], list: vec![u32::MAX; list as usize] }
     }
 
-    /// The bytes after a read, and for staterun the list after a cell call.
+    /// The bytes after a read, and for staterun the lists after a cell call.
     pub fn line(&self, tag: u8, job: &Job) -> String {
         match tag {
             0x32 => format!("data{}\n", hex(&self.data)),
             0x22 if job.given.is_some() => format!("list{}\n", numbers(&self.list)),
+            0x34 if job.given.is_some() => format!("inputs{}\nlist{}\n", numbers(&self.inputs), numbers(&self.list)),
             _ => String::new(),
         }
     }
 }
 
 /// Numbers, each after a blank.
-pub fn numbers(list: &[u32]) -> String {
+pub fn numbers<T: std::fmt::Display>(list: &[T]) -> String {
     list.iter().map(|number| format!(" {number}")).collect()
 }
 
@@ -41,8 +48,17 @@ pub fn end(job: &Job, kept: &Kept, bus: &Bus) -> String {
     text
 }
 
-/// What staterun prints for a record that is not sound: each call is refused, and nothing changes.
+/// The line of a cell on an input, or the refusal's number: asked of the value's three numbers, whatever the record.
+pub fn cell_on(value: &[u8]) -> Result<String, String> {
+    let cell = wiring::cell_on(value[0], value[1], value[2]);
+    cell.map(|cell| format!("cellon {cell}")).map_err(|number| number.to_string())
+}
+
+/// What staterun prints for a record that is not sound: each call on it is refused, and nothing changes.
 pub fn unsound(job: &Job, kept: &Kept, bus: &Bus) -> String {
-    let calls = job.calls.iter().map(|(tag, value)| format!("refused 9\n{}", Lent::new(*tag, value).line(*tag, job)));
-    calls.collect::<String>() + &end(job, kept, bus)
+    let line = |tag: u8, value: &[u8]| {
+        let answer = if tag == 0x35 { cell_on(value) } else { Err("9".to_string()) };
+        answer.unwrap_or_else(|number| format!("refused {number}")) + "\n" + &Lent::new(tag, value).line(tag, job)
+    };
+    job.calls.iter().map(|(tag, value)| line(*tag, value)).collect::<String>() + &end(job, kept, bus)
 }

@@ -1,6 +1,6 @@
 // The lines of crates/rows by the crate's own functions. Included once for each build of the crate, which is `bq` here; `calls` are its calls.
 use crate::bus::{field_of, Bus, Transfer};
-use crate::chip::Chip;
+use crate::crates::chip::Chip;
 use crate::{Came, Line};
 use bq::*;
 use calls::{config, number};

@@ -2,7 +2,6 @@
 #![allow(incomplete_features)]
 #![feature(generic_const_exprs)]
 mod bus;
-mod chip;
 #[allow(dead_code)]
 mod crates;
 mod job;

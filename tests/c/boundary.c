@@ -7,6 +7,9 @@
 
 enum { GUARD = 16, MOST = 256, FIELDS = 8 };
 
+/* Which of the three functions: without a reading, with one by the crate's list, with one by the wiring. */
+enum reading { NONE, CELLS, WIRED };
+
 /* A lent buffer, filled and guarded with bytes that no call writes by chance. */
 struct lent {
     uint8_t bytes[GUARD + MOST + GUARD];
@@ -22,14 +25,14 @@ static void lend(struct lent *b, const uint8_t *bytes, size_t len) {
     b->len = len;
 }
 
-/* What a call is given, and what it must leave: answer, positions, five numbers, the log's and the list's first bytes. */
+/* What a call is given, and what it must leave: answer, positions, five numbers, the log's and both lists' first bytes. */
 struct call {
     const char *name;
-    struct lent job, tape, log, list, out;
+    struct lent job, tape, log, inputs, list, out;
     uint8_t number;
-    size_t tape_used, log_used, list_used;
+    size_t tape_used, log_used, inputs_used, list_used;
     uint32_t five[5];
-    uint8_t log_bytes[MOST], list_bytes[MOST];
+    uint8_t log_bytes[MOST], inputs_bytes[MOST], list_bytes[MOST];
 };
 
 static unsigned long run;
@@ -63,20 +66,28 @@ static void expected_out(const struct call *c, uint8_t out[BQ769X0_OUT]) {
 /* A pointer for a lent buffer, or none where it is empty and none is asked for. */
 static uint8_t *lent_at(struct lent *b, int null) { return null && b->len == 0 ? NULL : at(b); }
 
-static void made(struct call *c, int cells, int null) {
-    uint8_t out[BQ769X0_OUT], number;
+static uint8_t called(struct call *c, enum reading reading, int null) {
+    const uint8_t *job = lent_at(&c->job, null), *tape = lent_at(&c->tape, null);
+    uint8_t *log = lent_at(&c->log, null), *inputs = lent_at(&c->inputs, null), *list = lent_at(&c->list, null), *out = at(&c->out);
+    switch (reading) {
+    case NONE:
+        return bq769x0_init(job, c->job.len, tape, c->tape.len, log, c->log.len, out);
+    case CELLS:
+        return bq769x0_init_cells(job, c->job.len, tape, c->tape.len, log, c->log.len, list, c->list.len, out);
+    default:
+        return bq769x0_init_wired(job, c->job.len, tape, c->tape.len, log, c->log.len, inputs, c->inputs.len, list, c->list.len, out);
+    }
+}
+
+static void made(struct call *c, enum reading reading, int null) {
+    uint8_t out[BQ769X0_OUT];
     struct call before = *c;
-    if (cells)
-        number = bq769x0_init_cells(lent_at(&c->job, null), c->job.len, lent_at(&c->tape, null), c->tape.len, lent_at(&c->log, null), c->log.len,
-                                    lent_at(&c->list, null), c->list.len, at(&c->out));
-    else
-        number = bq769x0_init(lent_at(&c->job, null), c->job.len, lent_at(&c->tape, null), c->tape.len, lent_at(&c->log, null), c->log.len,
-                              at(&c->out));
-    must(number == c->number, c, "the number");
+    must(called(c, reading, null) == c->number, c, "the number");
     expected_out(c, out);
     same(c, "job", &c->job, &before.job, out, 0);
     same(c, "tape", &c->tape, &before.tape, out, 0);
     same(c, "log", &c->log, &before.log, c->log_bytes, c->log_used);
+    same(c, "inputs", &c->inputs, &before.inputs, c->inputs_bytes, c->inputs_used);
     same(c, "list", &c->list, &before.list, c->list_bytes, c->list_used);
     same(c, "out", &c->out, &before.out, out, BQ769X0_OUT);
     run++;
@@ -87,7 +98,7 @@ static const uint8_t job[] = {0x20, 0, 4, 5, 5, 8, 0, 0x21, 0, 24, 0, 0, 3, 0xE8
 
 struct field {
     size_t len;
-    uint8_t bytes[16];
+    uint8_t bytes[24];
 };
 
 static const struct field tape[FIELDS] = {
@@ -124,122 +135,200 @@ static size_t whole_tape(uint8_t *to, size_t count) {
 
 static void refused(struct call *c, uint8_t number, size_t count) {
     c->number = number;
-    c->list_used = 0;
+    c->inputs_used = c->list_used = 0;
     memset(c->five, 0, sizeof c->five);
     transfers(c, count);
 }
 
+/* A reading's cells: voltages in the list, and by the wiring their inputs beside them. */
+static void cells_read(struct call *c, enum reading reading, const uint8_t *inputs, const uint32_t *volts, size_t count) {
+    c->inputs_used = reading == WIRED ? count : 0;
+    c->list_used = reading == NONE ? 0 : 4 * count;
+    memcpy(c->inputs_bytes, inputs, count);
+    for (size_t i = 0; i < count; i++)
+        put(c->list_bytes + 4 * i, volts[i], 4);
+}
+
 /* The example as it stands, accepted. */
-static struct call example(const char *name, int cells) {
+static struct call example(const char *name, enum reading reading) {
+    static const uint8_t inputs[5] = {1, 2, 3, 4, 5};
     struct call c;
     uint8_t bytes[MOST];
-    size_t count = cells ? 8 : 7;
+    size_t count = reading == NONE ? 7 : 8;
     memset(&c, 0, sizeof c);
     c.name = name;
     lend(&c.job, job, sizeof job);
     lend(&c.tape, bytes, whole_tape(bytes, count));
     lend(&c.log, NULL, 80);
+    lend(&c.inputs, NULL, 9);
     lend(&c.list, NULL, 24);
     lend(&c.out, NULL, BQ769X0_OUT);
     transfers(&c, count);
     memcpy(c.five, accepted, sizeof accepted);
-    if (cells)
-        for (int i = 0; i < 5; i++)
-            put(c.list_bytes + 4 * i, millivolts[i], 4);
-    c.list_used = cells ? 20 : 0;
+    cells_read(&c, reading, inputs, millivolts, 5);
     return c;
 }
 
+/* The same on a BQ76930 of seven cells: inputs 4, 8 and 9 are shorted, and read 0 here. */
+static void seven_cells(void) {
+    static const struct field reply = {23, {1, 0, 20, 0x27, 0x10, 0x27, 0x11, 0x27, 0x74, 0, 0, 0x29, 0x68,
+                                            0x2A, 0xF8, 0x1F, 0x40, 0, 0, 0, 0, 0x2E, 0x18}};
+    static const uint8_t inputs[7] = {1, 2, 3, 5, 6, 7, 10};
+    static const uint32_t volts[7] = {3650, 3650, 3686, 3869, 4015, 2920, 4307};
+    struct call c = example("seven cells", WIRED);
+    size_t before = c.tape.len - tape[7].len;
+    at(&c.job)[3] = 10, at(&c.job)[4] = 7;
+    memcpy(at(&c.tape) + before, reply.bytes, reply.len);
+    c.tape.len = c.tape_used = before + reply.len;
+    c.log_bytes[c.log_used - 1] = 20;
+    c.list.len = 28;
+    cells_read(&c, WIRED, inputs, volts, 7);
+    made(&c, WIRED, 0);
+    c = example("six inputs for seven cells", WIRED);
+    at(&c.job)[3] = 10, at(&c.job)[4] = 7;
+    c.list.len = 28, c.inputs.len = 6;
+    refused(&c, BQ769X0_NO_ROOM, 7);
+    made(&c, WIRED, 0);
+}
+
 /* Every length from 0 up to one short, of the job, the tape and the log; with no pointer where it is 0 too. */
-static void short_buffers(int cells) {
-    size_t count = cells ? 8 : 7;
+static void short_buffers(enum reading reading) {
+    size_t count = reading == NONE ? 7 : 8;
     for (size_t n = 0; n < sizeof job; n++) {
-        struct call c = example("a short job", cells);
+        struct call c = example("a short job", reading);
         c.job.len = n;
         refused(&c, BQ769X0_BAD_TAPE, 0);
-        made(&c, cells, 0);
+        made(&c, reading, 0);
     }
-    for (size_t n = 0, fields = 0, end = 0; n < example("", cells).tape.len; n++) {
-        struct call c = example("a short tape", cells);
+    for (size_t n = 0, fields = 0, end = 0; n < example("", reading).tape.len; n++) {
+        struct call c = example("a short tape", reading);
         c.tape.len = n;
         if (n == end + tape[fields].len)
             end += tape[fields++].len;
         refused(&c, n == end ? BQ769X0_TAPE_ENDED : BQ769X0_BAD_TAPE, fields);
-        made(&c, cells, 0);
+        made(&c, reading, 0);
     }
-    for (size_t n = 0, fields = 0, end = 0; n < example("", cells).log_used; n++) {
-        struct call c = example("a short log", cells);
+    for (size_t n = 0, fields = 0, end = 0; n < example("", reading).log_used; n++) {
+        struct call c = example("a short log", reading);
         c.log.len = n;
         if (n == end + logged[fields].len)
             end += logged[fields++].len;
         refused(&c, BQ769X0_LOG_FULL, fields);
-        made(&c, cells, 0);
+        made(&c, reading, 0);
     }
     for (size_t i = 0; i < count; i++) {
-        struct call c = example("a fault", cells);
+        struct call c = example("a fault", reading);
         size_t n = whole_tape(at(&c.tape), i);
         memcpy(at(&c.tape) + n, "\2\0", 3);
         c.tape.len = n + 3;
         refused(&c, BQ769X0_I2C_ERROR, i + 1);
         c.tape_used = n + 3;
-        made(&c, cells, 0);
+        made(&c, reading, 0);
     }
 }
 
-static void short_lists(void) {
+static void short_lists(enum reading reading) {
     for (size_t n = 0; n < 20; n++) {
-        struct call c = example("a short list", 1);
+        struct call c = example("a short list", reading);
         c.list.len = n;
         refused(&c, BQ769X0_NO_ROOM, 7);
-        made(&c, 1, 0);
+        made(&c, reading, 0);
     }
+    for (size_t n = 0; reading == WIRED && n < 5; n++) {
+        struct call c = example("too few inputs", reading);
+        c.inputs.len = n;
+        refused(&c, BQ769X0_NO_ROOM, 7);
+        made(&c, reading, 0);
+    }
+}
+
+/* ---- the cell on an input, by the rule of the blocks of five: the last cell of each sits on its fifth input, the others on its first ones */
+static uint8_t cell_on(int x, int cells, int input, uint8_t *cell) {
+    int blocks = x / 5, found = 0;
+    if (x != 5 && x != 10 && x != 15)
+        return BQ769X0_BAD_DEVICE;
+    if (cells < 3 * blocks || cells > x)
+        return BQ769X0_BAD_CELL_COUNT;
+    for (int block = 0; block < blocks; block++) {
+        int inside = cells / blocks + (block < cells % blocks);
+        for (int i = 1; i <= inside; i++) {
+            found++;
+            if (5 * block + (i < inside ? i : 5) == input) {
+                *cell = (uint8_t)found;
+                return BQ769X0_OK;
+            }
+        }
+    }
+    return BQ769X0_NO_SUCH_INPUT;
+}
+
+static void on_input(const struct call *c, int x, int cells, int input) {
+    struct lent cell, before;
+    uint8_t should = 0, number = cell_on(x, cells, input, &should);
+    lend(&before, NULL, 1);
+    cell = before;
+    must(bq769x0_cell_on((uint8_t)x, (uint8_t)cells, (uint8_t)input, at(&cell)) == number, c, "the number");
+    same(c, "cell", &cell, &before, &should, number == BQ769X0_OK);
+    run++;
+}
+
+/* Every input, of every X and count up to 16 and of 255. */
+static void cells_on(void) {
+    struct call c = example("a cell on an input", NONE);
+    for (int x = 0; x < 256; x += x == 16 ? 239 : 1)
+        for (int cells = 0; cells < 256; cells += cells == 16 ? 239 : 1)
+            for (int input = 0; input < 256; input++)
+                on_input(&c, x, cells, input);
 }
 
 /* A refusal's figures: OV 5000 mV is out of reach, and 08 reads back otherwise. */
 static void figures(void) {
-    struct call c = example("an OV out of reach", 0);
+    struct call c = example("an OV out of reach", NONE);
     put(at(&c.job) + 26, 5000, 4);
     refused(&c, BQ769X0_OV_UNOBTAINABLE, 2);
     c.five[0] = 2, c.five[1] = 2993, c.five[2] = 4482;
-    made(&c, 0, 0);
-    c = example("another byte in 08", 0);
+    made(&c, NONE, 0);
+    c = example("another byte in 08", NONE);
     at(&c.tape)[5 + 4 + 3 + 3 + 2] ^= 1;
     refused(&c, BQ769X0_VERIFY_ERROR, 4);
     c.five[0] = 1, c.five[1] = 8;
-    made(&c, 0, 0);
+    made(&c, NONE, 0);
 }
 
-/* No pointer where a length is 0: of all four at once, and of each that the call gets to. */
-static void no_pointers(int cells) {
-    struct call c = example("no job, tape, log or list", cells);
-    c.job.len = c.tape.len = c.log.len = c.list.len = 0;
+/* No pointer where a length is 0: of all at once, and of each that the call gets to. */
+static void no_pointers(enum reading reading) {
+    struct call c = example("no job, tape, log or list", reading);
+    c.job.len = c.tape.len = c.log.len = c.inputs.len = c.list.len = 0;
     refused(&c, BQ769X0_BAD_TAPE, 0);
-    made(&c, cells, 1);
-    c = example("no tape", cells);
+    made(&c, reading, 1);
+    c = example("no tape", reading);
     c.tape.len = 0;
     refused(&c, BQ769X0_TAPE_ENDED, 0);
-    made(&c, cells, 1);
-    c = example("no log", cells);
+    made(&c, reading, 1);
+    c = example("no log", reading);
     c.log.len = 0;
     refused(&c, BQ769X0_LOG_FULL, 0);
-    made(&c, cells, 1);
-    if (cells) {
-        c = example("no list", cells);
-        c.list.len = 0;
+    made(&c, reading, 1);
+    if (reading != NONE) {
+        c = example("no list", reading);
+        c.inputs.len = c.list.len = 0;
         refused(&c, BQ769X0_NO_ROOM, 7);
-        made(&c, cells, 1);
+        made(&c, reading, 1);
     }
 }
 
 int main(void) {
-    for (int cells = 0; cells < 2; cells++) {
-        struct call c = example("the example", cells);
-        made(&c, cells, 0);
-        short_buffers(cells);
-        no_pointers(cells);
+    for (enum reading reading = NONE; reading <= WIRED; reading++) {
+        struct call c = example("the example", reading);
+        made(&c, reading, 0);
+        short_buffers(reading);
+        no_pointers(reading);
     }
-    short_lists();
+    short_lists(CELLS);
+    short_lists(WIRED);
+    seven_cells();
     figures();
+    cells_on();
     printf("c: %lu calls as they should be\n", run);
     return 0;
 }

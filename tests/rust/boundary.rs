@@ -11,6 +11,11 @@ mod bq769x0 {
                 job: *const u8, job_len: usize, tape: *const u8, tape_len: usize, log: *mut u8, log_len: usize,
                 list: *mut u8, list_len: usize, out: *mut u8,
             ) -> u8;
+            pub fn bq769x0_init_wired(
+                job: *const u8, job_len: usize, tape: *const u8, tape_len: usize, log: *mut u8, log_len: usize,
+                inputs: *mut u8, inputs_len: usize, list: *mut u8, list_len: usize, out: *mut u8,
+            ) -> u8;
+            pub fn bq769x0_cell_on(x: u8, cells: u8, input: u8, cell: *mut u8) -> u8;
         }
     }
 
@@ -29,7 +34,29 @@ mod bq769x0 {
             )
         }
     }
+
+    pub fn init_wired(job: &[u8], tape: &[u8], log: &mut [u8], inputs: &mut [u8], list: &mut [u8], out: &mut [u8; OUT]) -> u8 {
+        unsafe {
+            linked::bq769x0_init_wired(
+                job.as_ptr(), job.len(), tape.as_ptr(), tape.len(), log.as_mut_ptr(), log.len(),
+                inputs.as_mut_ptr(), inputs.len(), list.as_mut_ptr(), list.len(), out.as_mut_ptr(),
+            )
+        }
+    }
+
+    pub fn cell_on(x: u8, cells: u8, input: u8, cell: &mut [u8; 1]) -> u8 {
+        unsafe { linked::bq769x0_cell_on(x, cells, input, cell.as_mut_ptr()) }
+    }
 }
+
+/// Which of the three functions: without a reading, with one by the crate's list, with one by the wiring.
+#[derive(Clone, Copy, PartialEq)]
+enum Reading {
+    None,
+    Cells,
+    Wired,
+}
+use Reading::{Cells, None, Wired};
 
 const FILL: u8 = 0xC3;
 
@@ -65,17 +92,24 @@ struct Left {
     tape_used: usize,
     log: Vec<u8>,
     five: [u32; 5],
+    inputs: Vec<u8>,
     list: Vec<u8>,
 }
 
 fn refused(number: u8, tape_used: usize, transfers: usize) -> Left {
-    Left { number, tape_used, log: log(transfers), five: [0; 5], list: vec![] }
+    Left { number, tape_used, log: log(transfers), five: [0; 5], inputs: vec![], list: vec![] }
 }
 
-fn accepted(cells: bool) -> Left {
-    let count = if cells { 8 } else { 7 };
-    let list = if cells { MILLIVOLTS.iter().flat_map(|mv| mv.to_be_bytes()).collect() } else { vec![] };
-    Left { number: 0, tape_used: tape(count).len(), log: log(count), five: ACCEPTED, list }
+/// The transfers of the example, with its reading or without.
+fn count(reading: Reading) -> usize {
+    if reading == None { 7 } else { 8 }
+}
+
+fn accepted(reading: Reading) -> Left {
+    let all = count(reading);
+    let inputs = if reading == Wired { vec![1, 2, 3, 4, 5] } else { vec![] };
+    let list = if reading == None { vec![] } else { MILLIVOLTS.iter().flat_map(|mv| mv.to_be_bytes()).collect() };
+    Left { number: 0, tape_used: tape(all).len(), log: log(all), five: ACCEPTED, inputs, list }
 }
 
 fn over(bytes: &[u8], len: usize) -> Vec<u8> {
@@ -84,14 +118,16 @@ fn over(bytes: &[u8], len: usize) -> Vec<u8> {
     whole
 }
 
-fn check(name: &str, cells: bool, job: &[u8], tape: &[u8], log_len: usize, list_len: usize, left: Left) -> u32 {
-    let mut log = vec![FILL; log_len];
-    let mut list = vec![FILL; list_len];
+/// The sizes of what is lent: log, inputs, list.
+const ROOM: [usize; 3] = [80, 9, 24];
+
+fn check(name: &str, reading: Reading, job: &[u8], tape: &[u8], room: [usize; 3], left: Left) -> u32 {
+    let [mut log, mut inputs, mut list] = room.map(|len| vec![FILL; len]);
     let mut out = [FILL; bq769x0::OUT];
-    let number = if cells {
-        bq769x0::init_cells(job, tape, &mut log, &mut list, &mut out)
-    } else {
-        bq769x0::init(job, tape, &mut log, &mut out)
+    let number = match reading {
+        None => bq769x0::init(job, tape, &mut log, &mut out),
+        Cells => bq769x0::init_cells(job, tape, &mut log, &mut list, &mut out),
+        Wired => bq769x0::init_wired(job, tape, &mut log, &mut inputs, &mut list, &mut out),
     };
     let mut expected = Vec::new();
     expected.extend((left.tape_used as u64).to_be_bytes());
@@ -99,8 +135,9 @@ fn check(name: &str, cells: bool, job: &[u8], tape: &[u8], log_len: usize, list_
     expected.extend(left.five.iter().flat_map(|n| n.to_be_bytes()));
     assert_eq!(number, left.number, "{name}: the number");
     assert_eq!(out.to_vec(), expected, "{name}: out");
-    assert_eq!(log, over(&left.log, log_len), "{name}: the log");
-    assert_eq!(list, over(&left.list, list_len), "{name}: the list");
+    assert_eq!(log, over(&left.log, room[0]), "{name}: the log");
+    assert_eq!(inputs, over(&left.inputs, room[1]), "{name}: the inputs");
+    assert_eq!(list, over(&left.list, room[2]), "{name}: the list");
     1
 }
 
@@ -116,34 +153,60 @@ fn whole(fields: impl Iterator<Item = usize>, n: usize) -> (usize, usize) {
     held
 }
 
-fn every(cells: bool) -> u32 {
-    let count = if cells { 8 } else { 7 };
+fn every(reading: Reading) -> u32 {
+    let count = count(reading);
     let all = tape(count);
-    let mut run = check("the example", cells, &JOB, &all, 80, 24, accepted(cells));
+    let mut run = check("the example", reading, &JOB, &all, ROOM, accepted(reading));
     for n in 0..JOB.len() {
-        run += check("a short job", cells, &JOB[..n], &all, 80, 24, refused(15, 0, 0));
+        run += check("a short job", reading, &JOB[..n], &all, ROOM, refused(15, 0, 0));
     }
     for n in 0..all.len() {
         let (fields, end) = whole(TRANSFERS.iter().map(|t| t.0.len()), n);
         let number = if n == end { 16 } else { 15 };
-        run += check("a short tape", cells, &JOB, &all[..n], 80, 24, refused(number, end, fields));
+        run += check("a short tape", reading, &JOB, &all[..n], ROOM, refused(number, end, fields));
     }
     for n in 0..log(count).len() {
         let (fields, _) = whole(TRANSFERS.iter().map(|t| t.1.len()), n);
-        run += check("a short log", cells, &JOB, &all, n, 24, refused(17, tape(fields).len(), fields));
+        run += check("a short log", reading, &JOB, &all, [n, 9, 24], refused(17, tape(fields).len(), fields));
     }
     for i in 0..count {
         let mut faulted = tape(i);
         faulted.extend([2, 0, 0]);
-        run += check("a fault", cells, &JOB, &faulted, 80, 24, refused(2, faulted.len(), i + 1));
+        run += check("a fault", reading, &JOB, &faulted, ROOM, refused(2, faulted.len(), i + 1));
     }
     run
 }
 
+fn short_lists() -> u32 {
+    let (all, used) = (tape(8), tape(7).len());
+    let lists = (0..20).flat_map(|n| [(Cells, [80, 9, n]), (Wired, [80, 9, n])]);
+    let inputs = (0..5).map(|n| (Wired, [80, n, 24]));
+    lists.chain(inputs).map(|(reading, room)| check("a short list", reading, &JOB, &all, room, refused(19, used, 7))).sum()
+}
+
+/// Four cells on a BQ76920: input 4 is shorted.
+fn four_cells() -> u32 {
+    let mut job = JOB;
+    job[4] = 4;
+    let volts = [0, 1, 2, 4].map(|place| MILLIVOLTS[place]);
+    let list = volts.iter().flat_map(|mv| mv.to_be_bytes()).collect();
+    check("four cells", Wired, &job, &tape(8), ROOM, Left { inputs: vec![1, 2, 3, 5], list, ..accepted(Wired) })
+}
+
+/// The cell on each input of a pack, and what the packs that are none answer.
+fn cells_on() -> u32 {
+    let seven = [1, 2, 3, 5, 6, 7, 10].into_iter().zip(1..).map(|(input, cell)| ([10, 7, input], 0, [cell]));
+    let none = [([10, 7, 0], 21), ([10, 7, 4], 21), ([10, 7, 11], 21), ([6, 6, 1], 9), ([10, 5, 1], 10)];
+    let refused = none.into_iter().map(|(asked, number)| (asked, number, [FILL]));
+    let check = |([x, cells, input], number, cell): ([u8; 3], u8, [u8; 1])| {
+        let mut lent = [FILL];
+        assert_eq!((bq769x0::cell_on(x, cells, input, &mut lent), lent), (number, cell), "cell on {input} of {x}, {cells}");
+        1
+    };
+    seven.chain(refused).map(check).sum()
+}
+
 fn main() {
-    let mut run = every(false) + every(true);
-    for n in 0..20 {
-        run += check("a short list", true, &JOB, &tape(8), 80, n, refused(19, tape(7).len(), 7));
-    }
+    let run = every(None) + every(Cells) + every(Wired) + short_lists() + four_cells() + cells_on();
     println!("rust: {run} calls as they should be");
 }

@@ -9,7 +9,8 @@ use borrow.Author.Tests.{le-leb, ltb-false, eqb-true, not-false}
 use Rattle.refusals.specs.Refusal.{value, refusedIf}
 use Rattle.settings.proofs.Values.{refused-not}
 use Rattle.bus.specs.Raw.{Done, sound}
-use Rattle.bq769x0.specs.Record.{isSize, isCount, deviceFor, isSound, setupOf}
+use Rattle.wiring.specs.Sizes.{isSize, isCount}
+use Rattle.bq769x0.specs.Record.{deviceFor, isSound, setupOf}
 use Rattle.bq769x0.specs.declared.BQ769x0.{BQ769x0}
 use Rattle.bq769x0.proofs.Keeps.{decides}
 

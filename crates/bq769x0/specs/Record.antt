@@ -8,6 +8,7 @@ use lib.Dec.{eqb, leb, ltb}
 use lib.IntN.{ℤ, pos, negsuc}
 use lib.ListN.{replicate}
 use Rattle.refusals.specs.Refusal.{Refusal, no, Answer, value, refused, refusedIf, told}
+use Rattle.wiring.specs.Sizes.{within, ofPack}
 use Rattle.bus.specs.Fields.{if_then_else_}
 use Rattle.bus.specs.Raw.{Done}
 use Rattle.bus.specs.declared.raw.Setup.{Setup}
@@ -19,21 +20,9 @@ use Rattle.bq769x0.specs.declared.record.New.{New}
 use Rattle.bq769x0.specs.declared.record.NewAnswer.{NewAnswer}
 use Rattle.bq769x0.specs.declared.record.NewAnswer.the-variants as N
 
--- BQ76920, BQ76930 and BQ76940 have 5, 10 and 15 inputs
-abbrev pub isSize : ℕ → Bool
-isSize x = eqb x 5 || eqb x 10 || eqb x 15
-
-abbrev pub within : ℕ → ℕ → ℕ → Bool
-within low high n = leb low n && leb n high
-
--- 3 to 5, 6 to 10 or 9 to 15 cells
-abbrev pub isCount : ℕ → ℕ → Bool
-isCount x n = eqb x 5 && within 3 5 n || eqb x 10 && within 6 10 n || eqb x 15 && within 9 15 n
-
 -- 9, 10, 11
 unfoldable pub deviceFor : ℕ → ℕ → ℕ → Answer Done
-deviceFor x address n =
-    refusedIf (not (isSize x)) 9 (refusedIf (not (isCount x n)) 10 (refusedIf (ltb 127 address) 11 (value tt)))
+deviceFor x address n = ofPack x n (refusedIf (ltb 127 address) 11 (value tt))
 
 -- nothing read and nothing set up
 abbrev pub fresh : ℕ → ℕ → ℕ → Bool → BQ769x0

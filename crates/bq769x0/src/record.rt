@@ -1,6 +1,6 @@
 // The record: made by `new` alone, changed by the setters below, and sound or not.
 ghost use mathlib.Core.Path.{_≡_};
-ghost use Rattle.bq769x0.specs.Record.{isSize, isCount, deviceFor, asMade, asNew, newFor, fresh, calibratedRight, markedRight, isSound, setupOf, adcOf, withCalibration, withShunt, withCells};
+ghost use Rattle.bq769x0.specs.Record.{deviceFor, asMade, asNew, newFor, fresh, calibratedRight, markedRight, isSound, setupOf, adcOf, withCalibration, withShunt, withCells};
 use crate::BQ769x0;
 use adc::transfer::AdcTransferFunction;
 use bus::raw::Setup;
@@ -20,11 +20,11 @@ pub struct New {
 }
 
 impl BQ769x0 {
-    pub const BQ76920: u8 = 5;
+    pub const BQ76920: u8 = wiring::BQ76920;
 
-    pub const BQ76930: u8 = 10;
+    pub const BQ76930: u8 = wiring::BQ76930;
 
-    pub const BQ76940: u8 = 15;
+    pub const BQ76940: u8 = wiring::BQ76940;
 
     pub const SYS_CTRL2: u8 = 0x05;
 
@@ -146,33 +146,14 @@ impl BQ769x0 {
     }
 }
 
-fn is_size(x: u8) -> bool
-    ensures { λ r. ⌜ r ≡ isSize x ⌝ }
-{
-    (x == BQ769x0::BQ76920) | (x == BQ769x0::BQ76930) | (x == BQ769x0::BQ76940)
-}
-
-fn is_count(x: u8, cell_count: u8) -> bool
-    ensures { λ r. ⌜ r ≡ isCount x «cell_count» ⌝ }
-{
-    let n = cell_count;
-    if x == BQ769x0::BQ76920 {
-        return (3 <= n) & (n <= 5);
-    }
-    if x == BQ769x0::BQ76930 {
-        return (6 <= n) & (n <= 10);
-    }
-    (x == BQ769x0::BQ76940) & ((9 <= n) & (n <= 15))
-}
-
 // 9, 10, 11.
 fn device_answer(x: u8, dev_address: u8, cell_count: u8) -> NewAnswer
     ensures { λ r. ⌜ asMade r ≡ deviceFor x «dev_address» «cell_count» ⌝ }
 {
-    if !is_size(x) {
+    if !wiring::is_size(x) {
         return NewAnswer::Refused(Error::BadDevice);
     }
-    if !is_count(x, cell_count) {
+    if !wiring::is_count(x, cell_count) {
         return NewAnswer::Refused(Error::BadCellCount);
     }
     if 127 < dev_address {

@@ -8,3 +8,4 @@ pub mod Moves
 pub mod Programs
 pub mod Raws
 pub mod Reading
+pub mod Sized

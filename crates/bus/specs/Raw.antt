@@ -7,6 +7,7 @@ use lib.ListN.{length, replicate}
 use lib.IntN.{pos}
 use lib.Dec.{eqb, leb, ltb}
 use Rattle.refusals.specs.Refusal.{no, Answer, value, refused, answering, told}
+use Rattle.wiring.specs.Sizes.{isSize}
 use Rattle.frames.specs.Frames.{readByte, right, dataOf, writeFrame}
 use Rattle.frames.specs.Put.{put}
 use Rattle.bus.specs.Fields.{if_then_else_}
@@ -16,9 +17,9 @@ use Rattle.bus.specs.declared.raw.Setup.{Setup}
 use Rattle.bus.specs.declared.raw.RawAnswer.{RawAnswer}
 use Rattle.bus.specs.declared.raw.RawAnswer.the-variants as R
 
--- a 7-bit address, and 5, 10 or 15 inputs
+-- a 7-bit address, and a device's count of inputs
 abbrev pub sound : Setup → Bool
-sound s = leb (s .address) 127 && (eqb (s .x) 5 || eqb (s .x) 10 || eqb (s .x) 15)
+sound s = leb (s .address) 127 && isSize (s .x)
 
 -- a call that has nothing to hand back
 abbrev pub Done : Type 0

@@ -33,17 +33,10 @@ impl Setup {
     pub fn is_sound(self) -> bool
         ensures { λ r. ⌜ r ≡ sound self ⌝ }
     {
-        let x = self.x;
         if 127 < self.address {
             return false;
         }
-        if x == 5 {
-            return true;
-        }
-        if x == 10 {
-            return true;
-        }
-        x == 15
+        wiring::is_size(self.x)
     }
 }
 

@@ -1,4 +1,4 @@
-// The calls that can change the record: setting up, and reading the cells.
+// Setting up, and reading the cells by the crate's list.
 ghost use Prim.Native.Nat.{_≤_};
 use crate::lines;
 use crate::state::State;
@@ -41,7 +41,7 @@ fn ready(five: Five) {
     );
 }
 
-fn size(n: u8) -> usize
+pub(crate) fn size(n: u8) -> usize
     ensures { λ r. ⌜ r ≤ 255 ⌝ }
 {
     n as usize

@@ -13,6 +13,7 @@ mod lines;
 mod measure;
 mod registers;
 mod state;
+mod wired;
 
 // 15, then 9, 10, 11, then the calls.
 pub fn print(input: &[u8]) {
@@ -82,6 +83,7 @@ fn call(tag: u8, value: &[u8], state: State, tape: &[u8], log: &mut [u8]) -> Sta
     match tag {
         0x21 => change::init(value, state, tape, log),
         0x22 => change::cells(value, state, tape, log),
+        0x34 => wired::wired(value, state, tape, log),
         _ => {
             let device = state.device;
             let at = state.at;
@@ -109,6 +111,10 @@ fn other(
         0x2D => registers::ship_enter(device, tape, log, at),
         0x30 => registers::temperature_source(device, tape, log, at),
         0x32 => registers::read_raw(value, device, tape, log, at),
+        0x35 => {
+            wired::cell_on(value);
+            at
+        }
         _ => registers::command(tag, value, device, tape, log, at),
     }
 }

@@ -55,6 +55,41 @@ pub(crate) fn numbers(name: &[u8], list: &[u32], count: usize) {
     text::words(b"\n");
 }
 
+fn whole(n: u8) -> u64 {
+    n as u64
+}
+
+pub(crate) fn small_numbers(name: &[u8], list: &[u8]) {
+    text::words(name);
+    let mut i = 0;
+    while i < list.len() {
+        text::number(whole(list[i]));
+        i += 1;
+    }
+    text::words(b"\n");
+}
+
+// The number at a place, where there is one.
+fn number_at(list: &[u32], i: usize) {
+    if i < list.len() {
+        text::number(wide(list[i]));
+    }
+}
+
+// The first `count` of two lists, each number of the first ahead of the one beside it.
+pub(crate) fn pairs(name: &[u8], first: &[u8], second: &[u32], count: usize) {
+    text::words(name);
+    let mut i = 0;
+    while i < first.len() {
+        if i < count {
+            text::number(whole(first[i]));
+            number_at(second, i);
+        }
+        i += 1;
+    }
+    text::words(b"\n");
+}
+
 pub(crate) fn bytes(name: &[u8], bytes: &[u8]) {
     text::words(name);
     let mut i = 0;

@@ -13,14 +13,14 @@ use Rattle.calls.specs.declared.Shape.the-variants as S
 abbrev pub shapes : List (ℕ × Shape)
 shapes =
     (0x21, S.Config)  -- init
-    ∷ (0x22, S.Byte)  -- cells
+    ∷ (0x22, S.Bytes 1)  -- cells
     ∷ (0x23, S.Empty)  -- current
     ∷ (0x24, S.Empty)  -- voltage
     ∷ (0x25, S.Empty)  -- temperature
-    ∷ (0x26, S.Byte)  -- enable_balancing
+    ∷ (0x26, S.Bytes 1)  -- enable_balancing
     ∷ (0x27, S.Empty)  -- balancing_state
     ∷ (0x28, S.Empty)  -- sys_stat
-    ∷ (0x29, S.Byte)  -- sys_stat_reset
+    ∷ (0x29, S.Bytes 1)  -- sys_stat_reset
     ∷ (0x2A, S.Below 2)  -- discharge
     ∷ (0x2B, S.Below 2)  -- charge
     ∷ (0x2C, S.Empty)  -- is_charge_enabled
@@ -31,6 +31,8 @@ shapes =
     ∷ (0x31, S.Below 3)  -- coulomb_counter_mode
     ∷ (0x32, S.Read)  -- read_raw
     ∷ (0x33, S.Write)  -- write_raw
+    ∷ (0x34, S.Bytes 2)  -- wired
+    ∷ (0x35, S.Bytes 3)  -- cell_on
     ∷ []
 
 abbrev pub shapeIn : List (ℕ × Shape) → ℕ → Shape
@@ -55,7 +57,7 @@ writes bytes = leb 1 (length bytes) && leb (length bytes) 65
 abbrev pub fits : Shape → List ℕ → Bool
 fits S.Unknown bytes = false
 fits S.Empty bytes = eqb (length bytes) 0
-fits S.Byte bytes = eqb (length bytes) 1
+fits (S.Bytes n) bytes = eqb (length bytes) n
 fits (S.Below bound) bytes = below bound bytes
 fits S.Config bytes = isConfig bytes
 fits S.Read bytes = reads bytes

@@ -39,24 +39,24 @@ pub enum HeadAnswer {
 pub enum Shape {
     Unknown,
     Empty,
-    Byte,
-    Below(u8),
+    Bytes(u8), // so many
+    Below(u8), // one, below this
     Config,
     Read, // register, two-byte count
     Write, // register, bytes
 }
 
 // By their tags from 21.
-const SHAPES: [Shape; 19] = [
+const SHAPES: [Shape; 21] = [
     Shape::Config, // 21 init
-    Shape::Byte, // 22 cells
+    Shape::Bytes(1), // 22 cells
     Shape::Empty, // 23 current
     Shape::Empty, // 24 voltage
     Shape::Empty, // 25 temperature
-    Shape::Byte, // 26 enable_balancing
+    Shape::Bytes(1), // 26 enable_balancing
     Shape::Empty, // 27 balancing_state
     Shape::Empty, // 28 sys_stat
-    Shape::Byte, // 29 sys_stat_reset
+    Shape::Bytes(1), // 29 sys_stat_reset
     Shape::Below(2), // 2A discharge
     Shape::Below(2), // 2B charge
     Shape::Empty, // 2C is_charge_enabled
@@ -67,6 +67,8 @@ const SHAPES: [Shape; 19] = [
     Shape::Below(3), // 31 coulomb_counter_mode
     Shape::Read, // 32 read_raw
     Shape::Write, // 33 write_raw
+    Shape::Bytes(2), // 34 wired
+    Shape::Bytes(3), // 35 cell_on
 ];
 
 fn shape_of(tag: u8) -> Shape
@@ -75,7 +77,7 @@ fn shape_of(tag: u8) -> Shape
     if tag < 0x21 {
         return Shape::Unknown;
     }
-    if 0x33 < tag {
+    if 0x35 < tag {
         return Shape::Unknown;
     }
     SHAPES[(tag - 0x21) as usize]
@@ -106,7 +108,7 @@ fn fits(shape: Shape, value: &[u8]) -> bool
     match shape {
         Shape::Unknown => false,
         Shape::Empty => n == 0,
-        Shape::Byte => n == 1,
+        Shape::Bytes(count) => n == count as usize,
         Shape::Below(bound) => is_below(value, bound),
         Shape::Config => job::is_config(value),
         Shape::Read => is_read(value),

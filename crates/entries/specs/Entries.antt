@@ -14,6 +14,7 @@ use Rattle.bus.specs.declared.Cursor.{Cursor}
 use Rattle.bus.specs.declared.raw.Setup.{Setup}
 use Rattle.bq769x0.specs.declared.BQ769x0.{BQ769x0}
 use Rattle.measuring.specs.Cells.{Filled}
+use Rattle.measuring.specs.Wired.{Shown}
 
 abbrev pub setupBy : ℕ → ℕ → Bool → Setup
 setupBy x address check = record { address = address; check = check; x = x }
@@ -57,3 +58,14 @@ asCells r = given (numberOf (r .answer .answer)) (outOf (r .bus .at) 0) (r .bus 
 
 abbrev pub asFlow : Ran (Answer ℤ) → Given
 asFlow r = given (numberOf (r .answer)) (outOf (r .bus .at) (flowOf (r .answer))) (r .bus .log) []
+
+-- with the inputs' numbers, that C lends beside the list
+pub record GivenBoth : Type 0 where
+  pub given : Given
+  pub inputs : List ℕ
+
+abbrev pub shownBy : ℕ → List ℕ → List ℕ → List ℕ → List ℕ → GivenBoth
+shownBy number out log inputs list = record { given = given number out log list; inputs = inputs }
+
+abbrev pub asShown : Ran Shown → GivenBoth
+asShown r = shownBy (numberOf (r .answer .answer)) (outOf (r .bus .at) 0) (r .bus .log) (r .answer .inputs) (r .answer .list)

@@ -1,4 +1,4 @@
-// Three calls for the bench's C, each on a tape and a log that nothing is used of: the number, 0 where accepted, and in out how far
+// Four calls for the bench's C, each on a tape and a log that nothing is used of: the number, 0 where accepted, and in out how far
 // tape and log are then used, and the current.
 ghost use mathlib.Core.Path.{_≡_};
 ghost use mathlib.Core.List.{[]};
@@ -8,8 +8,9 @@ ghost use Rattle.bus.specs.Transfers.{start, busOf};
 ghost use Rattle.bus.specs.Programs.{onTape};
 ghost use Rattle.bus.specs.Raw.{asRaw, readRaw};
 ghost use Rattle.measuring.specs.Cells.{cellVoltages};
+ghost use Rattle.measuring.specs.Wired.{wired};
 ghost use Rattle.measuring.specs.Pack.{current};
-ghost use Rattle.entries.specs.Entries.{setupBy, recordBy, flowOf, outOf, given, asRead, asCells, asFlow};
+ghost use Rattle.entries.specs.Entries.{setupBy, recordBy, flowOf, outOf, given, shownBy, asRead, asCells, asFlow, asShown};
 use adc::counter::CurrentAnswer;
 use bq769x0::BQ769x0;
 use bus::Cursor;
@@ -17,6 +18,7 @@ use bus::raw::RawAnswer;
 use bus::raw::Setup;
 use measuring::cells;
 use measuring::pack;
+use measuring::wired;
 use units::MicroOhms;
 use units::MilliVolts;
 
@@ -119,6 +121,32 @@ pub extern "C" fn entry_cells(
 {
     let device = record_by(x, cell_count, address, check, gain, b51, shunt);
     let read = cells::cell_voltages(device, list, tape, log, Cursor { tape: 0, log: 0 });
+    let answer = read.answer;
+    let at = read.at;
+    put_out(out, at, 0);
+    number_of(answer)
+}
+
+#[no_mangle]
+pub extern "C" fn entry_wired(
+    x: u8,
+    cell_count: u8,
+    address: u8,
+    check: bool,
+    gain: u16,
+    b51: u8,
+    shunt: u32,
+    inputs: &mut [u8],
+    list: &mut [u32],
+    tape: &[u8],
+    log: &mut [u8],
+    out: &mut [usize; 3],
+) -> u8
+    ensures { λ r. ⌜ shownBy r (now (out .exit)) (now (log .exit)) (now (inputs .exit)) (now (list .exit))
+        ≡ asShown (onTape (wired (recordBy x «cell_count» address check gain b51 shunt) (now (inputs .entry)) (now (list .entry))) (busOf (now (tape .entry)) (now (log .entry)) start)) ⌝ }
+{
+    let device = record_by(x, cell_count, address, check, gain, b51, shunt);
+    let read = wired::wired(device, inputs, list, tape, log, Cursor { tape: 0, log: 0 });
     let answer = read.answer;
     let at = read.at;
     put_out(out, at, 0);

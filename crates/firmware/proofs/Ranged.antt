@@ -2,11 +2,12 @@
 -- Assumes nothing.
 use mathlib.Core.Path.{_≡_}
 use mathlib.Core.Bool.{Bool, true, false, false≢true, not}
-use mathlib.Core.List.{List}
+use mathlib.Core.List.{List, map}
 use Prim.Native.Nat.{ℕ, _<_}
 use native.Mathlib.Omega.{arith}
 use lib.ListN.{replicate}
 use Rattle.refusals.specs.Refusal.{Answer, value, refused}
+use Rattle.units.specs.declared.MilliVolts.{MilliVolts}
 use Rattle.settings.specs.Steps.{InMv, stepsFor}
 use Rattle.settings.specs.Plan.{Values}
 use Rattle.settings.specs.Told.{rangeNumber}
@@ -26,8 +27,11 @@ use Rattle.bq769x0.specs.Init.{onward, onwardBy, counting, setting, initBy}
 use Rattle.bq769x0.specs.declared.BQ769x0.{BQ769x0}
 use Rattle.bq769x0.proofs.Always.{always, on-tape, always-after, always-bind, always-call, always-pure}
 use Rattle.measuring.specs.Cells.{cellVoltages}
+use Rattle.measuring.specs.Wired.{wired}
 use Rattle.firmware.specs.JobInit.{noDevice, jobInit}
-use Rattle.firmware.specs.JobCells.{Listed, unlisted, storing, readCells, onlyReady, jobCells, asList}
+use Rattle.firmware.specs.JobCells.{Listed, unlisted, cellOf, storing, readCells, onlyReady, jobCells, asList}
+use Rattle.firmware.specs.JobWired as by-wiring
+use Rattle.firmware.specs.JobWired.{Beside, readWired, jobWired, asBoth}
 use Rattle.firmware.specs.Layout.{eight, laid, layout, asC}
 
 abbrev Ranged : Answer Values → Type 0
@@ -79,22 +83,39 @@ job-in bytes =
 ListedIn : Listed → Type 0
 ListedIn l = Ranged (l .left .answer)
 
-storing-in : (n : ℕ) (list : List ℕ) (values : Values) (d : BQ769x0) (y : Answer Done) → rangeNumber (values .range) < 2
-    → ListedIn (storing n list values d y)
+storing-in : (n : ℕ) (cells : List MilliVolts) (list : List ℕ) (values : Values) (d : BQ769x0) (y : Answer Done) → rangeNumber (values .range) < 2
+    → ListedIn (storing n cells list values d y)
 unfolding ListedIn
-storing-in n list values d (value done) h = h
-storing-in n list values d (refused r) h = tt
+storing-in n cells list values d (value done) h = h
+storing-in n cells list values d (refused r) h = tt
 
 ready-in : (list : List ℕ) (d : BQ769x0) (y : Answer Values) → Ranged y → always ListedIn (onlyReady list d y)
 unfolding readCells always ListedIn
 ready-in list d (value values) h =
     always-pure ListedIn (unlisted d list) _ (λ r. tt) _ λ room e.
-    always-bind ListedIn (cellVoltages d (replicate 15 0)) _ λ read. storing-in _ list values (read .device) (read .answer) h
+    always-bind ListedIn (cellVoltages d (replicate 15 0)) _ λ read. storing-in _ (read .device .cells) list values (read .device) (read .answer) h
 ready-in list d (refused r) h = tt
 
 cells-in : (bytes list : List ℕ) → always ListedIn (jobCells bytes list)
 unfolding jobCells
 cells-in bytes list = always-after ListedIn InRange (jobInit bytes) _ (job-in bytes) λ left h. ready-in list (left .device) (left .answer) h
+
+-- ---- the same by the wiring
+BesideIn : Beside → Type 0
+BesideIn b = ListedIn (b .listed)
+
+wired-ready-in : (inputs list : List ℕ) (d : BQ769x0) (y : Answer Values) → Ranged y → always BesideIn (by-wiring.onlyReady inputs list d y)
+unfolding readWired always BesideIn ListedIn
+wired-ready-in inputs list d (value values) h =
+    always-pure BesideIn (by-wiring.unlisted d inputs list) _ (λ r. tt) _ λ room e.
+    always-bind BesideIn (wired d inputs (replicate 15 0)) _ λ read.
+    storing-in _ (map cellOf (read .list)) list values (read .device) (read .answer) h
+wired-ready-in inputs list d (refused r) h = tt
+
+wired-in : (bytes inputs list : List ℕ) → always BesideIn (jobWired bytes inputs list)
+unfolding jobWired
+wired-in bytes inputs list =
+    always-after BesideIn InRange (jobInit bytes) _ (job-in bytes) λ left h. wired-ready-in inputs list (left .device) (left .answer) h
 
 -- ---- what C is given
 laid-in : (y : Answer Values) (at : Cursor) → Ranged y → accepts y ≡ true → numberAt (layout y at) 16 < 2
@@ -111,3 +132,10 @@ pub cells-range : (bytes list : List ℕ) (b : Bus) → accepts (onTape (jobCell
 unfolding ListedIn
 cells-range bytes list b =
     laid-in (onTape (jobCells bytes list) b .answer .left .answer) _ (on-tape ListedIn (jobCells bytes list) (cells-in bytes list) b)
+
+pub wired-range : (bytes inputs list : List ℕ) (b : Bus) → accepts (onTape (jobWired bytes inputs list) b .answer .listed .left .answer) ≡ true
+    → numberAt (asBoth (onTape (jobWired bytes inputs list) b) .handed .handed .out) 16 < 2
+unfolding BesideIn ListedIn
+wired-range bytes inputs list b =
+    laid-in (onTape (jobWired bytes inputs list) b .answer .listed .left .answer) _
+    (on-tape BesideIn (jobWired bytes inputs list) (wired-in bytes inputs list) b)

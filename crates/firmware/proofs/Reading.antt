@@ -1,21 +1,27 @@
--- A cell reading after an init, where init's outcome, the room and the reading's outcome are known.
+-- A cell reading after an init, by either list, where init's outcome, the room and the reading's outcome are known.
 -- Assumes nothing.
-use mathlib.Core.Path.{_≡_, sym, ap, _∙_}
+use mathlib.Core.Path.{_≡_, refl, sym, ap, subst⁻¹, _∙_}
 use mathlib.Core.Bool.{true, false, and-eq-true-iff}
-use mathlib.Core.List.{List, []}
+use mathlib.Core.List.{List, [], map, map-id, map-map}
 use Prim.Native.Nat.{ℕ, _*_, _≤_}
 use lib.Dec.{leb}
-use lib.ListN.{length, replicate}
+use lib.ListN.{length, take, drop, replicate, length-map}
+use lib.Seq.{take-at, length-take-le}
 use borrow.Author.Tests.{leb-true}
-use Rattle.refusals.specs.Refusal.{Answer, value, refused, refusedIf, no}
+use Rattle.refusals.specs.Refusal.{Refusal, Answer, value, refused, no}
+use Rattle.units.specs.declared.MilliVolts.{MilliVolts}
+use Rattle.frames.specs.Put.{put}
 use Rattle.settings.specs.Plan.{Values}
 use Rattle.bus.specs.Transfers.{Bus}
 use Rattle.bus.specs.Raw.{Done}
-use Rattle.bus.specs.Programs.{Prog, ret, Ran, onTape, bind}
+use Rattle.bus.specs.Programs.{Prog, ret, Ran, onTape, bind, _orLeave_, _>>=_}
 use Rattle.bus.proofs.Programs.{onTape-bind, pure-on, pure-off}
 use Rattle.bq769x0.specs.declared.BQ769x0.{BQ769x0}
-use Rattle.measuring.specs.Cells.{filled, cellVoltages}
-use Rattle.firmware.specs.JobCells.{unlisted, hasRoom, storing, readCells}
+use Rattle.measuring.specs.Inputs.{_over_}
+use Rattle.measuring.specs.Cells.{Filled, filled, volts, firstCells, cellVoltages}
+use Rattle.measuring.proofs.Lists.{map-take}
+use Rattle.measuring.proofs.Shows.{Shows, cells-shown}
+use Rattle.firmware.specs.JobCells.{listed, cellOf, cellBytes, hasRoom, roomFor, storing}
 
 -- ---- the room
 pub has-room-is : (n bytes : ℕ) → hasRoom n bytes ≡ true → (4 * n ≤ bytes) × (n ≤ 15)
@@ -28,18 +34,39 @@ pub bound : {A B : Type 0} (p : Prog A) (f : A → Prog B) (b : Bus) {a : A} {b�
     → record { answer = a; bus = b′ } ≡ onTape p b → onTape (bind p f) b ≡ onTape (f a) b′
 bound {A} p f b e = onTape-bind p f b ∙ ap (λ (r : Ran A). onTape (f (r .answer)) (r .bus)) (sym e)
 
-module _ (list : List ℕ) (values : Values) (d : BQ769x0) (b : Bus) where
-  pub no-room : hasRoom (d .«cell_count») (length list) ≡ false
-      → onTape (readCells list values d) b ≡ record { answer = unlisted d list (no 19 []); bus = b }
-  unfolding readCells
-  no-room e = pure-off (unlisted d list) _ b _ (no 19 []) (rw e)
+-- ---- the test for room, then a reading, whatever is given of it
+module _ {A F : Type 0} (n : ℕ) (list : List ℕ) (leave : Refusal → A) (p : Prog F) (give : F → A) (b : Bus) where
+  abbrev reading : Prog A
+  reading = (ret (roomFor n list) orLeave leave) >>= λ _. bind p λ read. ret (give read)
 
-  pub room : hasRoom (d .«cell_count») (length list) ≡ true → {a : Answer Done} {d′ : BQ769x0} {numbers : List ℕ} {b′ : Bus}
-      → record { answer = filled a d′ numbers; bus = b′ } ≡ onTape (cellVoltages d (replicate 15 0)) b
-      → {z : Answer Done} → a ≡ z
-      → onTape (readCells list values d) b ≡ record { answer = storing (d .«cell_count») list values d′ z; bus = b′ }
-  unfolding readCells onTape
-  room e {d′ = d′} {b′ = b′} read t =
-      pure-on (unlisted d list) _ b _ (tt {0}) (rw e)
-      ∙ bound (cellVoltages d (replicate 15 0)) _ b read
-      ∙ ap (λ (x : Answer Done). record { answer = storing (d .«cell_count») list values d′ x; bus = b′ }) t
+  pub no-room : hasRoom n (length list) ≡ false → onTape reading b ≡ record { answer = leave (no 19 []); bus = b }
+  no-room e = pure-off leave _ b _ (no 19 []) (rw e)
+
+  pub room : hasRoom n (length list) ≡ true → {f : F} {b′ : Bus} → record { answer = f; bus = b′ } ≡ onTape p b
+      → onTape reading b ≡ record { answer = give f; bus = b′ }
+  unfolding onTape
+  room e read = pure-on leave _ b _ (tt {0}) (rw e) ∙ bound p _ b read
+
+-- ---- the numbers that the crate's call filled are the first cells of the record that it left
+numbers-cells : (n : ℕ) (cells : List MilliVolts) (l : List ℕ) → n ≤ length cells → take n (map cellOf (firstCells n cells over l)) ≡ take n cells
+numbers-cells n cells l h =
+    let size : length (firstCells n cells) ≡ n = length-take-le n (map volts cells) (rw (length-map cells volts) h) in
+    sym (map-take cellOf n (firstCells n cells over l))
+    ∙ ap (map cellOf) (take-at (firstCells n cells) (drop (length (firstCells n cells)) l) n size)
+    ∙ map-take cellOf n (map volts cells)
+    ∙ ap (take n) (map-map cellOf volts cells ∙ map-id cells)
+
+stored-alike : (n : ℕ) (cells cells′ : List MilliVolts) (list : List ℕ) (values : Values) (d : BQ769x0) (y : Answer Done)
+    → (y ≡ value tt → take n cells ≡ take n cells′) → storing n cells list values d y ≡ storing n cells′ list values d y
+stored-alike n cells cells′ list values d (value done) h =
+    ap (λ (first : List MilliVolts). listed (value values) d (put list 0 (cellBytes first))) (h refl)
+stored-alike n cells cells′ list values d (refused r) h = refl
+
+pub same-stored : (d : BQ769x0) (b : Bus) {d′ : BQ769x0} {numbers : List ℕ} {b′ : Bus} → d .«cell_count» ≤ length (d′ .cells)
+    → {a : Answer Done} → record { answer = filled a d′ numbers; bus = b′ } ≡ onTape (cellVoltages d (replicate 15 0)) b
+    → (list : List ℕ) (values : Values)
+    → storing (d .«cell_count») (map cellOf numbers) list values d′ a ≡ storing (d .«cell_count») (d′ .cells) list values d′ a
+same-stored d b {d′ = d′} {numbers = numbers} more {a = a} read list values =
+    stored-alike (d .«cell_count») (map cellOf numbers) (d′ .cells) list values d′ a λ e.
+    ap (λ (l : List ℕ). take (d .«cell_count») (map cellOf l)) (subst⁻¹ (Shows d (replicate 15 0)) read (cells-shown d (replicate 15 0) b) e)
+    ∙ numbers-cells (d .«cell_count») (d′ .cells) (replicate 15 0) more

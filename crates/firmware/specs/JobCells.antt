@@ -30,6 +30,9 @@ listed a d list = record { left = leaves a d; list = list }
 abbrev pub unlisted : BQ769x0 → List ℕ → Refusal → Listed
 unlisted d list r = listed (refused r) d list
 
+abbrev pub cellOf : ℕ → MilliVolts
+cellOf n = record { 0 = n }
+
 abbrev pub cellBytes : List MilliVolts → List ℕ
 cellBytes [] = []
 cellBytes (cell ∷ cells) = four (cell .0) ++ cellBytes cells
@@ -46,15 +49,16 @@ hasRoom n bytes = leb (4 * n) bytes && leb n 15
 abbrev pub roomFor : ℕ → List ℕ → Answer Done
 roomFor n list = refusedIf (not (hasRoom n (length list))) 19 (value tt)
 
-abbrev pub storing : ℕ → List ℕ → Values → BQ769x0 → Answer Done → Listed
-storing n list values d (value done) = listed (value values) d (stored n (d .cells) list)
-storing n list values d (refused r) = unlisted d list r
+abbrev pub storing : ℕ → List MilliVolts → List ℕ → Values → BQ769x0 → Answer Done → Listed
+storing n cells list values d (value done) = listed (value values) d (stored n cells list)
+storing n cells list values d (refused r) = unlisted d list r
 
 -- the crate's cell reading of a device that was set up with these values
 unfoldable pub readCells : List ℕ → Values → BQ769x0 → Prog Listed
 readCells list values d = do
   _ ← ret (roomFor (d .«cell_count») list) orLeave unlisted d list
-  bind (cellVoltages d (replicate 15 0)) λ (read : Filled). ret (storing (d .«cell_count») list values (read .device) (read .answer))
+  bind (cellVoltages d (replicate 15 0)) λ (read : Filled).
+      ret (storing (d .«cell_count») (read .device .cells) list values (read .device) (read .answer))
 
 abbrev pub onlyReady : List ℕ → BQ769x0 → Answer Values → Prog Listed
 onlyReady list d (value values) = readCells list values d

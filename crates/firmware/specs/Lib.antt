@@ -1,3 +1,5 @@
 pub mod JobInit
 pub mod Layout
 pub mod JobCells
+pub mod JobWired
+pub mod CellOn

@@ -7,8 +7,12 @@ ghost use Rattle.bq769x0.specs.Record.{leaves};
 ghost use Rattle.firmware.specs.JobInit.{asNoJob, asNoDevice, jobInit};
 ghost use Rattle.firmware.specs.Layout.{handed, asC};
 ghost use Rattle.firmware.specs.JobCells.{listed, jobCells, asList};
+ghost use Rattle.firmware.specs.JobWired.{beside, jobWired, handedBoth, asBoth};
+ghost use Rattle.firmware.specs.CellOn.{found, foundFor};
+ghost use Rattle.wiring.specs.Questions.{cellOn};
 use crate::cells::read_cells;
 use crate::layout::lay_out;
+use crate::wired::read_wired;
 use bq769x0::BQ769x0;
 use bq769x0::record::NewAnswer;
 use bq769x0::setting::Init;
@@ -16,9 +20,13 @@ use bus::Cursor;
 use job::JobAnswer;
 use refusals::Error;
 use settings::InitAnswer;
+use wiring::questions;
+use wiring::questions::CellAnswer;
 
 mod cells;
 mod layout;
+mod list;
+mod wired;
 
 fn of_job(answer: JobAnswer) -> InitAnswer
     ensures { λ r. ⌜ asInit r ≡ asNoJob answer ⌝ }
@@ -114,4 +122,59 @@ pub extern "C" fn bq769x0_init_cells(
     let at = done.at;
     lay_out(out, at, answer.figures());
     answer.number()
+}
+
+// The init of a job, and one cell reading by the wiring after it.
+pub fn init_wired(
+    job: &[u8],
+    tape: &[u8],
+    log: &mut [u8],
+    inputs: &mut [u8],
+    list: &mut [u8],
+) -> Init
+    ensures { λ r. ⌜ ran (beside (asInit (r .answer)) (r .device) (now (inputs .exit)) (now (list .exit))) (now (tape .entry)) (now (log .exit)) (r .at)
+        ≡ onTape (jobWired (now (job .entry)) (now (inputs .entry)) (now (list .entry))) (busOf (now (tape .entry)) (now (log .entry)) start) ⌝ }
+{
+    let done = init(job, tape, log);
+    let answer = done.answer;
+    let device = done.device;
+    let at = done.at;
+    let InitAnswer::Ready(values) = answer else {
+        return Init { answer, device, at };
+    };
+    read_wired(values, device, inputs, list, tape, log, at)
+}
+
+// For C: as `bq769x0_init_cells`, by the wiring, with each cell's input in inputs; a refusal leaves both as they were.
+#[no_mangle]
+pub extern "C" fn bq769x0_init_wired(
+    job: &[u8],
+    tape: &[u8],
+    log: &mut [u8],
+    inputs: &mut [u8],
+    list: &mut [u8],
+    out: &mut [u8; 36],
+) -> u8
+    ensures { λ r. ⌜ handedBoth (handed r (now (out .exit)) (now (log .exit))) (now (inputs .exit)) (now (list .exit))
+        ≡ asBoth (onTape (jobWired (now (job .entry)) (now (inputs .entry)) (now (list .entry))) (busOf (now (tape .entry)) (now (log .entry)) start)) ⌝ }
+{
+    let done = init_wired(job, tape, log, inputs, list);
+    let answer = done.answer;
+    let at = done.at;
+    lay_out(out, at, answer.figures());
+    answer.number()
+}
+
+// For C: the number, and the cell on an input of a pack, which a refusal leaves as it was.
+#[no_mangle]
+pub extern "C" fn bq769x0_cell_on(x: u8, cells: u8, input: u8, cell: &mut [u8; 1]) -> u8
+    ensures { λ r. ⌜ found r (now (cell .exit)) ≡ foundFor (cellOn x cells input) (now (cell .entry)) ⌝ }
+{
+    match questions::cell_on(x, cells, input) {
+        CellAnswer::Cell(k) => {
+            *cell = [k];
+            0
+        }
+        CellAnswer::Refused(e) => e.number(),
+    }
 }

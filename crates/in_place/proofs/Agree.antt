@@ -1,4 +1,4 @@
--- Two outcomes that meet one promise agree: in what is returned, the record after, the log's bytes and the caller's list. Each is that of the function by value, with the record apart.
+-- Two outcomes that meet one promise agree: in what is returned, the record after, the log's bytes and the caller's lists. Each is that of the function by value, with the record apart.
 -- Assumes nothing.
 use mathlib.Core.Path.{_≡_, ap}
 use Prim.Native.Nat.{ℕ}
@@ -13,8 +13,9 @@ use Rattle.bq769x0.specs.declared.BQ769x0.{BQ769x0}
 use Rattle.bq769x0.specs.declared.setting.Init.{Init}
 use Rattle.bq769x0.proofs.Agree as by-value
 use Rattle.measuring.specs.Cells.{Filled, filled}
+use Rattle.measuring.specs.Wired.{Shown, shown}
 use Rattle.measuring.specs.declared.cells.Cells.{Cells}
-use Rattle.measuring.proofs.Agree.{cells-agree}
+use Rattle.measuring.proofs.Agree as measured
 use Rattle.in_place.specs.declared.Answered.{Answered}
 
 -- what the function by value would have returned
@@ -42,9 +43,23 @@ pub voltages-agree : (p : Prog Filled) (b : Bus) (r r′ : Raw) (d d′ : BQ769x
     → ran (filled (asRaw (r′ .answer)) d′ list′) (b .tape) log′ (r′ .at) ≡ onTape p b
     → (r ≡ r′) × (d ≡ d′) × (list ≡ list′) × (log ≡ log′)
 voltages-agree p b r r′ d d′ list list′ log log′ e e′ =
-    let same = cells-agree p b (read r d) (read r′ d′) list list′ log log′ e e′ in (
+    let same = measured.cells-agree p b (read r d) (read r′ d′) list list′ log log′ e e′ in (
       ap (λ (x : Cells). record { answer = x .answer; at = x .at }) (same .0),
       ap (λ (x : Cells). x .device) (same .0),
       same .1,
       same .2,
+    )
+
+-- `wired`
+pub wired-agree : (p : Prog Shown) (b : Bus) (r r′ : Raw) (d d′ : BQ769x0) (inputs inputs′ list list′ log log′ : List ℕ)
+    → ran (shown (asRaw (r .answer)) d inputs list) (b .tape) log (r .at) ≡ onTape p b
+    → ran (shown (asRaw (r′ .answer)) d′ inputs′ list′) (b .tape) log′ (r′ .at) ≡ onTape p b
+    → (r ≡ r′) × (d ≡ d′) × (inputs ≡ inputs′) × (list ≡ list′) × (log ≡ log′)
+wired-agree p b r r′ d d′ inputs inputs′ list list′ log log′ e e′ =
+    let same = measured.wired-agree p b (read r d) (read r′ d′) inputs inputs′ list list′ log log′ e e′ in (
+      ap (λ (x : Cells). record { answer = x .answer; at = x .at }) (same .0),
+      ap (λ (x : Cells). x .device) (same .0),
+      same .1,
+      same .2,
+      same .3,
     )

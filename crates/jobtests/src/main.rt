@@ -141,7 +141,7 @@ fn run(input: &[u8], job: &mut [u8]) {
 }
 
 fn main() {
-    let mut input = [0u8; 262144];
+    let mut input = [0u8; 524288];
     let mut job = [0u8; 32768];
     let n = io::read_full(0, &mut input);
     run(&input[..n], &mut job);

@@ -7,6 +7,10 @@ use native.Mathlib.Omega.{arith}
 use lib.Dec.{T, eqb, eqb→eq}
 use borrow.Author.Tests.{eqb-false}
 
+pub is-true : (t : Bool) → T t → t ≡ true
+is-true true t = refl
+is-true false t = absurd t
+
 pub both-left : (a b : Bool) → T (a && b) → T a
 both-left true b t = tt
 both-left false b t = t

@@ -1,30 +1,33 @@
--- `cell_voltages` leaves a sound record sound, whatever tape and log hold.
+-- Both calls for the cells leave a sound record sound, whatever tape and log hold.
 -- Assumes nothing.
-use mathlib.Core.Path.{_≡_, ap, _∙_}
+use mathlib.Core.Path.{_≡_, _∙_}
 use mathlib.Core.Bool.{true}
-use Prim.Native.Nat.{ℕ}
+use Prim.Native.Nat.{ℕ, min}
 use mathlib.Core.List.{List}
-use Rattle.units.specs.declared.MilliVolts.{MilliVolts}
+use lib.IntN.{ℤ}
+use lib.ListN.{length}
 use Rattle.bus.specs.Transfers.{Bus}
 use Rattle.bus.specs.Programs.{Ran, onTape}
-use Rattle.bq769x0.specs.Record.{nine, isSound, withCells}
+use Rattle.bq769x0.specs.Record.{isSound, adcOf}
 use Rattle.bq769x0.specs.declared.BQ769x0.{BQ769x0}
-use Rattle.bq769x0.proofs.Always.{always, on-tape, always-call}
 use Rattle.bq769x0.proofs.Keeps.{cells-sound}
-use Rattle.bq769x0.proofs.Soundly.{sound-on}
-use Rattle.measuring.specs.Cells.{Filled, untouched, readCells, cellVoltages}
+use Rattle.measuring.specs.Inputs.{converted}
+use Rattle.measuring.specs.Cells.{Filled, taking, untouched, listed, readCells, cellVoltages}
+use Rattle.measuring.specs.Wired.{Shown, unshown, showing, readWired, wired}
+use Rattle.measuring.proofs.Reading.{by-call}
 
-Kept : Filled → Type 0
-Kept left = isSound (left .device) ≡ true
+module _ (d : BQ769x0) (b : Bus) (e : isSound d ≡ true) where
+  taken-sound : (inputs : List ℤ) → isSound (taking d inputs) ≡ true
+  taken-sound inputs = cells-sound d (taking d inputs .cells) ∙ e
 
-pub cells-keep : (d : BQ769x0) (list : List ℕ) (b : Bus) → isSound d ≡ true
-    → isSound (onTape (cellVoltages d list) b .answer .device) ≡ true
-unfolding cellVoltages readCells always Kept
-cells-keep d list b e =
-    let still : (cells : List MilliVolts) → isSound (withCells d cells) ≡ true = λ cells. cells-sound d cells ∙ e in
-    ap (λ (r : Ran Filled). isSound (r .answer .device)) (sound-on d (untouched d list nine) _ b e)
-    ∙ on-tape Kept _
-    (always-call Kept (untouched d list) _ (λ r. e) _ λ done.
-    always-call Kept _ _ (λ r. still _) _ λ inputs.
-    still _)
-    b
+  pub cells-keep : (list : List ℕ) → isSound (onTape (cellVoltages d list) b .answer .device) ≡ true
+  unfolding cellVoltages readCells
+  cells-keep list =
+      by-call d (length list) (untouched d list) (λ inputs. listed (taking d inputs) list) b (λ (x : Ran Filled). isSound (x .answer .device) ≡ true)
+      (λ r b′. e) (λ sound bytes b′ read. taken-sound (converted (adcOf d) bytes))
+
+  pub wired-keeps : (inputs list : List ℕ) → isSound (onTape (wired d inputs list) b .answer .device) ≡ true
+  unfolding wired readWired
+  wired-keeps inputs list =
+      by-call d (min (length inputs) (length list)) (unshown d inputs list) (showing d inputs list) b (λ (x : Ran Shown). isSound (x .answer .device) ≡ true)
+      (λ r b′. e) (λ sound bytes b′ read. taken-sound (converted (adcOf d) bytes))

@@ -1,5 +1,10 @@
 pub mod Agree
+pub mod BothLists
+pub mod ByRegisters
+pub mod CrateList
+mod Fitted
 pub mod Keeps
-mod Lists
+pub mod Lists
+mod Reading
+pub mod Shows
 mod Sizes
-pub mod Wiring

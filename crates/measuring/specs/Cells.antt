@@ -65,5 +65,8 @@ handed n cells room = if ltb room n || ltb 15 n then [] else firstCells n cells
 abbrev pub named : ℕ → MilliVolts
 named n = record { 0 = n }
 
+abbrev pub names : List ℕ
+names = 1 ∷ 2 ∷ 3 ∷ 4 ∷ 5 ∷ 6 ∷ 7 ∷ 8 ∷ 9 ∷ 10 ∷ 11 ∷ 12 ∷ 13 ∷ 14 ∷ 15 ∷ []
+
 abbrev pub inputsOf : ℕ → ℕ → List ℕ
-inputsOf x n = firstCells n (inTurn (moves x n) (map named (1 ∷ 2 ∷ 3 ∷ 4 ∷ 5 ∷ 6 ∷ 7 ∷ 8 ∷ 9 ∷ 10 ∷ 11 ∷ 12 ∷ 13 ∷ 14 ∷ 15 ∷ [])))
+inputsOf x n = firstCells n (inTurn (moves x n) (map named names))

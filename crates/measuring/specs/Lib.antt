@@ -1,6 +1,7 @@
 pub mod Inputs
 pub mod Moves
 pub mod Cells
+pub mod Wired
 pub mod Word
 pub mod Pack
 pub mod Temperature

@@ -6,7 +6,7 @@ ghost use Rattle.bus.specs.Transfers.{busOf};
 ghost use Rattle.bus.specs.Programs.{onTape, ran};
 ghost use Rattle.bus.specs.Raw.{asRaw};
 ghost use Rattle.measuring.specs.Inputs.{_over_, asCells};
-ghost use Rattle.measuring.specs.Cells.{filled, firstCells, handed, taking, readCells, cellVoltages};
+ghost use Rattle.measuring.specs.Cells.{filled, firstCells, handed, readCells, cellVoltages};
 use crate::inputs;
 use crate::moves;
 use bq769x0::BQ769x0;
@@ -43,7 +43,7 @@ pub fn cell_voltages(
     read_cells(device, list, tape, log, at)
 }
 
-fn refuse(e: Error, device: BQ769x0, at: Cursor) -> Cells
+pub(crate) fn refuse(e: Error, device: BQ769x0, at: Cursor) -> Cells
     ensures { λ r. ⌜ (r .answer ≡ RawAnswer.Refused e) × (r .device ≡ device) × (r .at ≡ at) ⌝ }
 {
     Cells {
@@ -60,7 +60,9 @@ fn read_cells(device: BQ769x0, list: &mut [u32], tape: &[u8], log: &mut [u8], at
     ensures { λ r. ⌜ ran (filled (asRaw (r .answer)) (r .device) (now (list .exit))) (now (tape .entry)) (now (log .exit)) (r .at)
         ≡ onTape (readCells device (now (list .entry))) (busOf (now (tape .entry)) (now (log .entry)) at) ⌝ }
 {
-    let n = device.cell_count as usize;
+    let x = device.x;
+    let cell_count = device.cell_count;
+    let held = device.cells;
     let read = inputs::read_inputs(device, tape, log, at);
     let answer = read.answer;
     let millivolts = read.millivolts;
@@ -72,12 +74,11 @@ fn read_cells(device: BQ769x0, list: &mut [u32], tape: &[u8], log: &mut [u8], at
             at: next,
         };
     };
-    let device = take_inputs(device, millivolts);
-    let cells = device.cells;
-    fill(n, cells, list);
+    let cells = moves::in_turn(x, cell_count, stored(x as usize, millivolts, held));
+    fill(cell_count as usize, cells, list);
     Cells {
         answer,
-        device,
+        device: device.store_cells(cells),
         at: next,
     }
 }
@@ -98,19 +99,8 @@ pub fn cells_of<'a>(device: BQ769x0, list: &'a mut [u32]) -> &'a mut [u32]
     &mut list[..n]
 }
 
-// The inputs, stored in the record; the moves go over them.
-fn take_inputs(device: BQ769x0, inputs: [i32; 15]) -> BQ769x0
-    requires { ⌜ device .x ≤ 15 ⌝ }
-    ensures { λ r. ⌜ r ≡ taking device (take (device .x) inputs) ⌝ }
-{
-    let x = device.x;
-    let cell_count = device.cell_count;
-    let held = device.cells;
-    let cells = stored(x as usize, inputs, held);
-    device.store_cells(moves::in_turn(x, cell_count, cells))
-}
-
-fn stored(n: usize, inputs: [i32; 15], cells: [MilliVolts; 15]) -> [MilliVolts; 15]
+// The first n inputs, over the cells held.
+pub(crate) fn stored(n: usize, inputs: [i32; 15], cells: [MilliVolts; 15]) -> [MilliVolts; 15]
     requires { ⌜ n ≤ 15 ⌝ }
     ensures { λ r. ⌜ r ≡ asCells (take n inputs) over cells ⌝ }
 {

@@ -1,6 +1,6 @@
 // All of the chip's inputs, read at once and converted to millivolts.
 ghost use mathlib.Core.Path.{_≡_};
-ghost use Prim.Native.Nat.{_*_, _/_, _≤_};
+ghost use Prim.Native.Nat.{_*_, _≤_};
 ghost use lib.IntN.{pos};
 ghost use lib.ListN.{length, replicate, take};
 ghost use Rattle.refusals.specs.Refusal.{answering};
@@ -55,21 +55,12 @@ fn read_into(device: BQ769x0, buf: &mut [u8], tape: &[u8], log: &mut [u8], at: C
     }
 }
 
-// The exact quotients, with their signs. All 15 inputs are counted by a constant, so that the compiler unrolls the loop.
+// The exact quotients, with their signs.
 fn convert(adc: AdcTransferFunction, buf: &[u8]) -> [i32; 15]
     requires { ⌜ length (now buf) ≤ 30 ⌝ }
     ensures { λ r. ⌜ r ≡ converted adc (now (buf .entry)) over replicate 15 (pos 0) ⌝ }
 {
-    if buf.len() == 30 {
-        return convert_each(adc, buf, 15);
-    }
-    convert_each(adc, buf, buf.len() / 2)
-}
-
-fn convert_each(adc: AdcTransferFunction, buf: &[u8], n: usize) -> [i32; 15]
-    requires { ⌜ (n ≤ 15) × (n ≡ length (now buf) / 2) ⌝ }
-    ensures { λ r. ⌜ r ≡ converted adc (now (buf .entry)) over replicate 15 (pos 0) ⌝ }
-{
+    let n = buf.len() / 2;
     let mut inputs = [0i32; 15];
     let mut i = 0;
     while i < n {

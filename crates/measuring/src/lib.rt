@@ -5,4 +5,5 @@ mod inputs;
 mod moves;
 pub mod pack;
 pub mod temperature;
+pub mod wired;
 mod word;

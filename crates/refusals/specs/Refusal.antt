@@ -59,6 +59,7 @@ told E.LogFull = no 17 []
 told E.UnknownFlags = no 18 []
 told E.NoRoom = no 19 []
 told E.UnknownRange = no 20 []
+told E.NoSuchInput = no 21 []
 
 -- the same as the code hands it on: the count of the figures, and zero for one that is not there
 abbrev pub asTold : Refusal → Told
@@ -94,6 +95,7 @@ cases first second =
     E.UnknownFlags ∷
     E.NoRoom ∷
     E.UnknownRange ∷
+    E.NoSuchInput ∷
     []
 
 abbrev pub caseOf : Told → Error

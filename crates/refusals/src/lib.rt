@@ -24,6 +24,7 @@ pub enum Error {
     UnknownFlags,
     NoRoom,
     UnknownRange,
+    NoSuchInput,
 }
 
 // A refusal as numbers: its number, how many figures it names, and those; a figure that it does not name is 0.
@@ -67,6 +68,7 @@ impl Error {
             Error::UnknownFlags => Told(18, 0, 0, 0),
             Error::NoRoom => Told(19, 0, 0, 0),
             Error::UnknownRange => Told(20, 0, 0, 0),
+            Error::NoSuchInput => Told(21, 0, 0, 0),
         }
     }
 }

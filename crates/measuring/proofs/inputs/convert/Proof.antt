@@ -1,4 +1,4 @@
--- `measuring::inputs::convert_each` meets its contract: a turn goes on from i inputs to i + 1. Assumes nothing.
+-- `measuring::inputs::convert` meets its contract: a turn goes on from i inputs to i + 1. Assumes nothing.
 use mathlib.Core.Path.{_≡_, refl, sym, ap, _∙_}
 use mathlib.Core.List.{List}
 use Prim.Native.Nat.{_-_, _/_, _≤_, zero-le}
@@ -12,8 +12,8 @@ use Rattle.signed.proofs.Signed.{read-back}
 use Rattle.adc.specs.Conversion.{millivolts}
 use Rattle.measuring.specs.Inputs.{_over_, converted}
 use Rattle.measuring.proofs.Lists.{over-step, length-converted, converted-at, all-converted}
-use Rattle.measuring.proofs.inputs.convert_each.Statement.{statement}
-use Rattle.measuring.proofs.inputs.convert_each.Tie as tie
+use Rattle.measuring.proofs.inputs.convert.Statement.{statement}
+use Rattle.measuring.proofs.inputs.convert.Tie as tie
 
 abbrev Inv-loop : tie.InvT-loop
 Inv-loop adc buf n inputs₀ i₀ inputs i = (i ≤ n) × (inputs ≡ take i (converted adc buf) over replicate 15 (pos 0))
@@ -80,8 +80,8 @@ returns c =
     let e : c .before .loop .i ≡ length (now (a .buf)) / 2 = omega arith in
     c .before .loop .inv .1 ∙ rw (e, all-converted (a .adc) (now (a .buf)))
 
-pub convert-each-spec : {M : Type 1} → statement M
-convert-each-spec =
+pub convert-spec : {M : Type 1} → statement M
+convert-spec =
     tie.close
     (tie.spec
     Inv-loop

@@ -1,12 +1,12 @@
--- `bq769x0::record::is_count` meets its contract. Assumes nothing.
+-- `wiring::is_count` meets its contract. Assumes nothing.
 use mathlib.Core.Path.{_≡_, refl}
 use mathlib.Core.Bool.{Bool, true, false, _&&_, _||_}
 use Prim.Native.Nat.{ℕ}
 use lib.Dec.{eqb}
 use borrow.Author.Tests.{ne-eqb}
-use Rattle.bq769x0.specs.Record.{within, isCount}
-use Rattle.bq769x0.proofs.record.is_count.Statement.{statement}
-use Rattle.bq769x0.proofs.record.is_count.Tie as tie
+use Rattle.wiring.specs.Sizes.{within, isCount}
+use Rattle.wiring.proofs.is_count.Statement.{statement}
+use Rattle.wiring.proofs.is_count.Tie as tie
 
 -- the sizes exclude each other
 five : (t : Bool) → t ≡ (t || false || false)
@@ -29,7 +29,7 @@ returns-2 c = rw (c .if2 .taken) (ten _)
 returns-3 : tie.Need-returns-3
 returns-3 c =
     let a = c .before .before .args in
-    fifteen (a .x) (a .cell-count) (c .before .if1 .left) (c .if2 .left)
+    fifteen (a .x) (a .cells) (c .before .if1 .left) (c .if2 .left)
 
 pub is-count-spec : {M : Type 1} → statement M
 is-count-spec = tie.close (tie.spec returns returns-2 returns-3)

@@ -1,0 +1,103 @@
+// The cells by the datasheet's wiring: each fitted input once, bottom of the pack first, with its number beside it.
+ghost use mathlib.Core.Path.{_≡_};
+ghost use Prim.Native.Nat.{ℕ, _≤_, _<_};
+ghost use mathlib.Core.Bool.{true};
+ghost use mathlib.Core.List.{map};
+ghost use lib.ListN.{length, getD, take};
+ghost use Rattle.bus.specs.Transfers.{busOf};
+ghost use Rattle.bus.specs.Programs.{onTape, ran};
+ghost use Rattle.bus.specs.Raw.{asRaw};
+ghost use Rattle.bq769x0.specs.Record.{isSound};
+ghost use Rattle.measuring.specs.Inputs.{_over_};
+ghost use Rattle.measuring.specs.Wired.{shown, ofInput, readWired, wired};
+use crate::cells;
+use crate::cells::Cells;
+use crate::inputs;
+use crate::moves;
+use bq769x0::BQ769x0;
+use bus::Cursor;
+use bus::raw::RawAnswer;
+use refusals::Error;
+use wiring::tables;
+
+pub fn wired(
+    device: BQ769x0,
+    inputs: &mut [u8],
+    list: &mut [u32],
+    tape: &[u8],
+    log: &mut [u8],
+    at: Cursor,
+) -> Cells
+    ensures { λ r. ⌜ ran (shown (asRaw (r .answer)) (r .device) (now (inputs .exit)) (now (list .exit))) (now (tape .entry)) (now (log .exit)) (r .at)
+        ≡ onTape (wired device (now (inputs .entry)) (now (list .entry))) (busOf (now (tape .entry)) (now (log .entry)) at) ⌝ }
+{
+    if !device.is_sound() {
+        return cells::refuse(Error::BadDevice, device, at);
+    }
+    if !device.init_complete {
+        return cells::refuse(Error::Uninitialized, device, at);
+    }
+    if inputs.len() < device.cell_count as usize {
+        return cells::refuse(Error::NoRoom, device, at);
+    }
+    if list.len() < device.cell_count as usize {
+        return cells::refuse(Error::NoRoom, device, at);
+    }
+    read_wired(device, inputs, list, tape, log, at)
+}
+
+// On a record and lists that pass the tests; where the read is refused nothing of them is touched.
+fn read_wired(
+    device: BQ769x0,
+    inputs: &mut [u8],
+    list: &mut [u32],
+    tape: &[u8],
+    log: &mut [u8],
+    at: Cursor,
+) -> Cells
+    requires { ⌜ isSound device ≡ true ⌝ }
+    requires { ⌜ (device .«cell_count» ≤ length (now inputs)) × (device .«cell_count» ≤ length (now list)) ⌝ }
+    ensures { λ r. ⌜ ran (shown (asRaw (r .answer)) (r .device) (now (inputs .exit)) (now (list .exit))) (now (tape .entry)) (now (log .exit)) (r .at)
+        ≡ onTape (readWired device (now (inputs .entry)) (now (list .entry))) (busOf (now (tape .entry)) (now (log .entry)) at) ⌝ }
+{
+    let x = device.x;
+    let cell_count = device.cell_count;
+    let held = device.cells;
+    let read = inputs::read_inputs(device, tape, log, at);
+    let answer = read.answer;
+    let millivolts = read.millivolts;
+    let next = read.at;
+    let RawAnswer::Done = answer else {
+        return Cells {
+            answer,
+            device,
+            at: next,
+        };
+    };
+    let stored = cells::stored(x as usize, millivolts, held);
+    let cells = moves::in_turn(x, cell_count, stored);
+    let fitted = tables::fitted(x, cell_count);
+    show(cell_count as usize, fitted, millivolts, inputs, list);
+    Cells {
+        answer,
+        device: device.store_cells(cells),
+        at: next,
+    }
+}
+
+// Each cell's input and its millivolts, over the first of either list.
+fn show(n: usize, fitted: [u8; 15], millivolts: [i32; 15], inputs: &mut [u8], list: &mut [u32])
+    requires { ⌜ (n ≤ 15) × (n ≤ length (now inputs)) × (n ≤ length (now list)) ⌝ }
+    requires { ⌜ ((k : ℕ) → k < n → (1 ≤ getD fitted k 0) × (getD fitted k 0 ≤ 15)) ⌝ }
+    ensures { λ _. ⌜ (now (inputs .exit) ≡ take n fitted over now (inputs .entry))
+        × (now (list .exit) ≡ map (ofInput millivolts) (take n fitted) over now (list .entry)) ⌝ }
+{
+    let mut i = 0;
+    while i < n {
+        let input = fitted[i];
+        let reading = millivolts[input as usize - 1];
+        inputs[i] = input;
+        list[i] = signed::as_u32(reading);
+        i += 1;
+    }
+}

@@ -1,0 +1,7 @@
+pub mod Agree
+mod Found
+pub mod Packs
+pub mod Rising
+pub mod Rows
+pub mod Sizes
+pub mod Undone
