@@ -1,6 +1,6 @@
 -- A read leaves as many bytes as it was lent, whatever tape and log hold: what the tape says to a transfer has the size that it asks for.
 -- Assumes nothing.
-use mathlib.Core.Path.{_≡_, refl, sym, ap, subst, _∙_}
+use mathlib.Core.Path.{_≡_, refl, sym, ap, _∙_}
 use mathlib.Core.Bool.{Bool, true, false, not, _&&_}
 use mathlib.Core.List.{List, [], _∷_}
 use mathlib.Core.Option.{Option, none, some}
@@ -16,7 +16,7 @@ use Rattle.frames.proofs.Checked.{length-data}
 use Rattle.frames.proofs.Put.{length-put}
 use Rattle.bus.specs.Fields.{if_then_else_, Field, unfield}
 use Rattle.bus.specs.Transfers.{Transfer, read, Outcome, done, fault, stopped, logField, wanted, untape, says, Bus, answered, outcome}
-use Rattle.bus.specs.Programs.{Prog, ret, Ran, onTape, bind}
+use Rattle.bus.specs.Programs.{Prog, ret, Ran, onTape}
 use Rattle.bus.specs.Raw.{Done, sound, Read, gives, refuses, plainly, received, whereRight, checkedly, plainRead, askFrame, checkedRead, readRaw, readBytes}
 use Rattle.bus.specs.declared.raw.Setup.{Setup}
 use Rattle.bus.proofs.Programs.{onTape-bind}

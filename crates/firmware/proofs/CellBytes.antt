@@ -4,7 +4,7 @@ use mathlib.Core.Path.{_≡_, refl, sym, ap, _∙_}
 use mathlib.Core.List.{List, [], _∷_, _++_, map, append-nil, append-assoc}
 use Prim.Native.Nat.{ℕ, suc, _+_, _*_, _≤_, _<_}
 use native.Mathlib.Omega.{arith}
-use lib.ListN.{length, take, getD, length-append, length-map, List·getD-map}
+use lib.ListN.{length, take, getD, length-map, List·getD-map}
 use lib.Seq.{take-suc, length-take-le}
 use Rattle.units.specs.declared.MilliVolts.{MilliVolts}
 use Rattle.frames.specs.Put.{put}

@@ -18,7 +18,7 @@ use Rattle.bus.specs.Programs.{Prog, ret, Ran, onTape, bind, _orLeave_, _>>=_}
 use Rattle.bus.proofs.Programs.{onTape-bind, pure-on, pure-off}
 use Rattle.bq769x0.specs.declared.BQ769x0.{BQ769x0}
 use Rattle.measuring.specs.Inputs.{_over_}
-use Rattle.measuring.specs.Cells.{Filled, filled, volts, firstCells, cellVoltages}
+use Rattle.measuring.specs.Cells.{filled, volts, firstCells, cellVoltages}
 use Rattle.measuring.proofs.Lists.{map-take}
 use Rattle.measuring.proofs.Shows.{Shows, cells-shown}
 use Rattle.firmware.specs.JobCells.{listed, cellOf, cellBytes, hasRoom, roomFor, storing}

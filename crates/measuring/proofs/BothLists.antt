@@ -11,7 +11,7 @@ use lib.IntN.{ℤ, pos}
 use lib.Seq.{length-take-le}
 use lib.ListN.{length, take, drop, getD, length-map, length-append, length-drop, List·getD-append, List·getD-map}
 use borrow.Author.Tests.{eq-eqb}
-use Rattle.laws.proofs.Tests.{is-true, both-left, both-right, agree, agreeing}
+use Rattle.laws.proofs.Tests.{both-left, both-right, agree, agreeing}
 use Rattle.refusals.specs.Refusal.{value}
 use Rattle.wiring.specs.Sizes.{isCount}
 use Rattle.wiring.specs.Tables.{fitted}
@@ -22,7 +22,7 @@ use Rattle.bus.specs.Programs.{Ran, ran, onTape}
 use Rattle.bus.specs.Raw.{asRaw, readBytes}
 use Rattle.bus.specs.declared.raw.RawAnswer.the-variants as R
 use Rattle.bus.proofs.Sized.{bytes-size}
-use Rattle.bq769x0.specs.Record.{isSound, setupOf, adcOf}
+use Rattle.bq769x0.specs.Record.{setupOf, adcOf}
 use Rattle.bq769x0.specs.declared.BQ769x0.{BQ769x0}
 use Rattle.measuring.specs.Inputs.{_over_, converted, asCell, asCells}
 use Rattle.measuring.specs.Cells.{Filled, filled, volts, firstCells, taking, untouched, listed, readCells, cellVoltages, named, names, inputsOf}
@@ -157,7 +157,10 @@ module _ (d : BQ769x0) (held : length (d .cells) ≡ 15) (b : Bus) (list : List 
   crate-by-registers r list′ log promise done = subst⁻¹ Accepted promise accepted (ap asRaw done)
 
   -- ---- on those packs the two calls leave the same list
-  pub both-alike : alike (d .x) (d .«cell_count») ≡ true → (inputs inputs″ list′ list″ : List ℕ) → Shows list′ → ByRegisters d b inputs list inputs″ list″ → list′ ≡ list″
+  pub both-alike : alike (d .x) (d .«cell_count») ≡ true → (inputs inputs″ list′ list″ : List ℕ)
+      → Shows list′
+      → ByRegisters d b inputs list inputs″ list″
+      → list′ ≡ list″
   both-alike e inputs inputs″ list′ list″ crate wiring =
       let bytes : crate .0 ≡ wiring .bytes = cc in
       let fits = same-inputs (d .x) (d .«cell_count») (sound-pack d (wiring .sound)) e in

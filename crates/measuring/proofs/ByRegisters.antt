@@ -6,10 +6,10 @@ use mathlib.Core.Bool.{true, false}
 use mathlib.Core.List.{List, map}
 use Prim.Native.Nat.{ℕ, _+_, _-_, _*_, _≤_, _<_, min}
 use native.Mathlib.Omega.{arith}
-use lib.IntN.{ℤ, pos}
+use lib.IntN.{pos}
 use lib.ListN.{length, getD, length-map, List·getD-append, List·getD-map}
 use Rattle.signed.specs.Numbers.{word, asU32}
-use Rattle.refusals.specs.Refusal.{Answer, value}
+use Rattle.refusals.specs.Refusal.{value}
 use Rattle.adc.specs.Conversion.{millivolts}
 use Rattle.adc.specs.declared.transfer.AdcTransferFunction.{AdcTransferFunction}
 use Rattle.wiring.specs.Tables.{fitted}
@@ -24,7 +24,7 @@ use Rattle.bus.proofs.Sized.{bytes-size}
 use Rattle.bq769x0.specs.Record.{isSound, setupOf, adcOf}
 use Rattle.bq769x0.specs.declared.BQ769x0.{BQ769x0}
 use Rattle.measuring.specs.Inputs.{_over_, converted}
-use Rattle.measuring.specs.Wired.{highOf, byteOf, ofRegisters, Shown, shown, unshown, ofInput, voltages, showing, readWired, wired}
+use Rattle.measuring.specs.Wired.{highOf, byteOf, ofRegisters, Shown, shown, unshown, ofInput, showing, readWired, wired}
 use Rattle.measuring.specs.declared.cells.Cells.{Cells}
 use Rattle.measuring.proofs.Fitted.{of-fitted}
 use Rattle.measuring.proofs.Lists.{map-same, getD-any, length-converted, converted-at}

@@ -2,7 +2,7 @@
 -- Assumes nothing.
 use mathlib.Core.Path.{_≡_, sym, ap, subst}
 use mathlib.Core.Bool.{Bool, true, false, not}
-use Prim.Native.Nat.{ℕ, _≤_}
+use Prim.Native.Nat.{_≤_}
 use lib.Dec.{T, ltb}
 use Rattle.refusals.specs.Refusal.{Answer, value, refusedIf}
 use Rattle.wiring.specs.Sizes.{isSize, isCount}

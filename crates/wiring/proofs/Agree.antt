@@ -1,8 +1,7 @@
 -- Two outcomes that meet one promise agree: the inputs listed with all fifteen numbers, and the cell on an input.
 -- Assumes nothing.
-use mathlib.Core.Path.{_≡_, refl, sym, ap, _∙_}
+use mathlib.Core.Path.{_≡_, refl, ap}
 use Rattle.laws.proofs.Inverse.{one-to-one}
-use Rattle.refusals.specs.Refusal.{Answer}
 use Rattle.refusals.proofs.Telling.{answerBack, untold-told}
 use Rattle.wiring.specs.Questions.{asCell, asKnown, Listed, asInputs}
 use Rattle.wiring.specs.declared.questions.CellAnswer.{CellAnswer}

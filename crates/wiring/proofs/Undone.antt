@@ -1,7 +1,7 @@
--- Of every device and every count that it allows: the list of inputs and the question which cell sits on an input undo each other, and no input
--- comes twice.
+-- Of every device and every count that it allows: the list of inputs and the question which cell sits on an input undo each other, no input comes
+-- twice, and no shorted one at all; for the definitions, and by the promises for what the code answers.
 -- Assumes nothing.
-use mathlib.Core.Path.{_≡_, refl, sym, ap, subst, _∙_}
+use mathlib.Core.Path.{_≡_, refl, sym, ap, _∙_}
 use mathlib.Core.Bool.{Bool, true, false, true≢false, false≢true, _||_}
 use mathlib.Core.List.{List, []}
 use Prim.Native.Nat.{ℕ, suc, _+_, _-_, _≤_, _<_}
@@ -11,6 +11,7 @@ use lib.ListN.{length, getD}
 use borrow.Author.Tests.{lt-ltb, ltb-true, ltb-false, ne-eqb}
 use Rattle.laws.proofs.Tests.{is-true, allBelow, below, agree, agreeing}
 use Rattle.refusals.specs.Refusal.{Answer, value, refused, no}
+use Rattle.refusals.specs.declared.Error.the-variants as E
 use Rattle.wiring.specs.Sizes.{isSize, isCount, ofPack}
 use Rattle.wiring.specs.Tables.{fitted}
 use Rattle.wiring.specs.Questions.{inputsFor, cellFrom, cellOn, asCell, Listed, asInputs, listed}
@@ -140,6 +141,15 @@ module _ (x n : ℕ) (pack : T (isCount x n)) (r : Fitted) (listing : asInputs r
       let shown = listing ∙ ap listed (every-pack x n pack .listed) in
       ap (λ (y : Listed). getD (y .inputs) k 0) shown ∙ row-at x n pack k h
 
+  pub listed-rises : (j k : ℕ) → j < k → k < n → getD (r .inputs) j 0 < getD (r .inputs) k 0
+  listed-rises j k less h = rw (listed-at j (omega arith), listed-at k h) (every-pack x n pack .rises j k less h)
+
+  pub listed-once : (j k : ℕ) → j < n → k < n → getD (r .inputs) j 0 ≡ getD (r .inputs) k 0 → j ≡ k
+  listed-once j k hj hk e = every-pack x n pack .once j k hj hk (sym (listed-at j hj) ∙ e ∙ listed-at k hk)
+
+  pub listed-unshorted : (k : ℕ) → k < n → shorted x n (getD (r .inputs) k 0) ≡ false
+  listed-unshorted k h = ap (shorted x n) (listed-at k h) ∙ every-pack x n pack .unshorted k h
+
   pub cell-of-listed : (k : ℕ) → k < n → (a : CellAnswer) → asCell a ≡ cellOn x n (getD (r .inputs) k 0) → a ≡ C.Cell (suc k)
   cell-of-listed k h a e = cell-agree a (C.Cell (suc k)) (e ∙ ap (cellOn x n) (listed-at k h) ∙ every-pack x n pack .there k h)
 
@@ -147,3 +157,12 @@ module _ (x n : ℕ) (pack : T (isCount x n)) (r : Fitted) (listing : asInputs r
   listed-of-cell input cell e =
       let at = every-pack x n pack .back input cell (sym e) in
       listed-at (cell - 1) (omega arith) ∙ at .2
+
+module _ (x n : ℕ) (pack : T (isCount x n)) (input : ℕ) (a : CellAnswer) (answered : asCell a ≡ cellOn x n input) where
+  pub bare-refused : bare x n input ≡ true → a ≡ C.Refused E.NoSuchInput
+  bare-refused e = cell-agree a (C.Refused E.NoSuchInput) (answered ∙ every-pack x n pack .bare-21 input e)
+
+  pub else-answered : bare x n input ≡ false → (cell : ℕ) × (a ≡ C.Cell cell)
+  else-answered e =
+      let given = every-pack x n pack .else-cell input e in
+      (given .0, cell-agree a (C.Cell (given .0)) (answered ∙ given .1))

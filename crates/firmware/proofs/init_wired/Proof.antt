@@ -4,11 +4,11 @@ use mathlib.Core.List.{List}
 use Prim.Native.Nat.{ℕ}
 use denote.Ref.{now}
 use borrow.Author.Needs.{needs}
-use Rattle.refusals.specs.Refusal.{Answer, value, refused}
+use Rattle.refusals.specs.Refusal.{Answer, value}
 use Rattle.settings.specs.Plan.{Values, asValues, asInit}
 use Rattle.bus.specs.Transfers.{Bus, busOf, start}
 use Rattle.bus.specs.Programs.{Ran, ran, onTape}
-use Rattle.bq769x0.specs.Record.{Left, leaves}
+use Rattle.bq769x0.specs.Record.{leaves}
 use Rattle.bq769x0.specs.declared.setting.Init.{Init}
 use Rattle.firmware.specs.JobInit.{jobInit}
 use Rattle.firmware.specs.JobWired.{Beside, onlyReady, jobWired}
@@ -106,8 +106,12 @@ module _ (c : tie.After-known-told) where
   abbrev ready-at : tie.After-init
   ready-at = at-init (c .before .before .before .before)
 
-  ready : whole (begun ready-at) ≡ onTape (onlyReady (inputs (begun ready-at)) (list (begun ready-at)) (ready-at .init .result .device) (value (asValues (c .before .answer .given .0 .0))))
-      (busOf (bus (begun ready-at) .tape) (ready-at .init .last .1 .1 .0) (ready-at .init .result .at))
+  abbrev s : tie.Start
+  s = begun ready-at
+
+  ready : whole s
+      ≡ onTape (onlyReady (inputs s) (list s) (ready-at .init .result .device) (value (asValues (c .before .answer .given .0 .0))))
+      (busOf (bus s .tape) (ready-at .init .last .1 .1 .0) (ready-at .init .result .at))
   ready = after-init ready-at (ap asInit (c .before .answer .given .1))
 
 returns-2 : tie.Need-returns-2

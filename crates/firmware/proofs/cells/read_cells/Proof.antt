@@ -1,19 +1,17 @@
 -- `firmware::cells::read_cells` meets its contract. Assumes nothing.
-use mathlib.Core.Path.{_≡_, sym, ap, _∙_}
+use mathlib.Core.Path.{_≡_, sym, _∙_}
 use mathlib.Core.Bool.{true, false}
 use mathlib.Core.List.{List, [], map}
 use Prim.Native.Nat.{ℕ, _≤_}
-use native.Mathlib.Omega.{arith}
 use lib.ListN.{length, replicate, length-map}
 use denote.Ref.{now}
 use borrow.Author.Needs.{needs}
 use borrow.Author.Tests.{not-true, not-false}
-use Rattle.units.specs.declared.MilliVolts.{MilliVolts}
-use Rattle.refusals.specs.Refusal.{Answer, value, refused, no}
+use Rattle.refusals.specs.Refusal.{no}
 use Rattle.settings.specs.Plan.{Values, asValues, asInit}
 use Rattle.bus.specs.Transfers.{Bus, busOf}
 use Rattle.bus.specs.Programs.{Ran, ran, onTape}
-use Rattle.bus.specs.Raw.{Done, asRaw}
+use Rattle.bus.specs.Raw.{asRaw}
 use Rattle.bq769x0.specs.declared.BQ769x0.{BQ769x0}
 use Rattle.bq769x0.specs.declared.setting.Init.{Init}
 use Rattle.measuring.specs.Cells.{Filled, filled, cellVoltages}

@@ -3,7 +3,7 @@ use mathlib.Core.Path.{_≡_, refl, sym, ap, _∙_}
 use mathlib.Core.List.{List, map}
 use Prim.Native.Nat.{ℕ, _-_, _≤_, _<_, zero-le}
 use native.Mathlib.Omega.{arith}
-use lib.IntN.{ℤ, pos}
+use lib.IntN.{pos}
 use lib.ListN.{length, take, set, getD, length-map, length-set, List·getD-map}
 use mir.Syntax.{w32}
 use denote.Ref.{now}
@@ -75,7 +75,8 @@ loop-again c =
     let list = now (a .list) in
     let volts = map (ofInput (a .t3)) (a .t2) in
     let more : l .i < length volts = rw (length-map (a .t2) (ofInput (a .t3))) (omega arith) in
-    let made : c .as-u32 .result ≡ ofInput (a .t3) (getD (a .t2) (l .i) 0) = c .as-u32 .ensures ∙ ap asU32 (read-back w32 (getD (a .t3) (getD (a .t2) (l .i) 0 - 1) (pos 0)) (c .before .reading .given)) in (
+    let made : c .as-u32 .result ≡ ofInput (a .t3) (getD (a .t2) (l .i) 0) =
+    c .as-u32 .ensures ∙ ap asU32 (read-back w32 (getD (a .t3) (getD (a .t2) (l .i) 0 - 1) (pos 0)) (c .before .reading .given)) in (
       omega arith,
       ap (λ (x : List ℕ). set x (l .i) (getD (a .t2) (l .i) 0)) (l .inv .1) ∙ over-step (a .t2) inputs (l .i) 0 (omega arith) (omega arith),
       ap (λ (x : List ℕ). set x (l .i) (c .as-u32 .result)) (l .inv .2)

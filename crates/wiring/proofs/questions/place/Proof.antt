@@ -10,8 +10,6 @@ use Rattle.wiring.specs.Questions.{cellFrom}
 use Rattle.wiring.proofs.Found.{found-here, not-here, nowhere}
 use Rattle.wiring.proofs.questions.place.Statement.{statement}
 use Rattle.wiring.proofs.questions.place.Tie as tie
-use Rattle.wiring.proofs.questions.place.Reads as reads
-use Rattle.wiring.proofs.questions.place.Lts as lts
 
 abbrev Inv-loop : tie.InvT-loop
 Inv-loop cells input inputs cell₀ cell =

@@ -27,8 +27,14 @@ returns-5 c = rw (c .match .keys5)
 returns-6 : tie.Need-returns-6
 unfolding fitted
 returns-6 c =
-    simp
-    (ne-eqb _ 6 (c .match .rest .0 .0 .0 .0 .1), ne-eqb _ 7 (c .match .rest .0 .0 .0 .1), ne-eqb _ 8 (c .match .rest .0 .0 .1), ne-eqb _ 9 (c .match .rest .0 .1), ne-eqb _ 10 (c .match .rest .1))
+    let other = c .match .rest in
+    simp (
+      ne-eqb _ 6 (other .0 .0 .0 .0 .1),
+      ne-eqb _ 7 (other .0 .0 .0 .1),
+      ne-eqb _ 8 (other .0 .0 .1),
+      ne-eqb _ 9 (other .0 .1),
+      ne-eqb _ 10 (other .1),
+    )
 
 pub bq76930-spec : {M : Type 1} → statement M
 bq76930-spec = tie.close (tie.spec returns returns-2 returns-3 returns-4 returns-5 returns-6)

@@ -35,8 +35,16 @@ returns-7 c = rw (c .match .keys7)
 returns-8 : tie.Need-returns-8
 unfolding fitted
 returns-8 c =
-    simp
-    (ne-eqb _ 9 (c .match .rest .0 .0 .0 .0 .0 .0 .1), ne-eqb _ 10 (c .match .rest .0 .0 .0 .0 .0 .1), ne-eqb _ 11 (c .match .rest .0 .0 .0 .0 .1), ne-eqb _ 12 (c .match .rest .0 .0 .0 .1), ne-eqb _ 13 (c .match .rest .0 .0 .1), ne-eqb _ 14 (c .match .rest .0 .1), ne-eqb _ 15 (c .match .rest .1))
+    let other = c .match .rest in
+    simp (
+      ne-eqb _ 9 (other .0 .0 .0 .0 .0 .0 .1),
+      ne-eqb _ 10 (other .0 .0 .0 .0 .0 .1),
+      ne-eqb _ 11 (other .0 .0 .0 .0 .1),
+      ne-eqb _ 12 (other .0 .0 .0 .1),
+      ne-eqb _ 13 (other .0 .0 .1),
+      ne-eqb _ 14 (other .0 .1),
+      ne-eqb _ 15 (other .1),
+    )
 
 pub bq76940-spec : {M : Type 1} → statement M
 bq76940-spec = tie.close (tie.spec returns returns-2 returns-3 returns-4 returns-5 returns-6 returns-7 returns-8)
