@@ -142,9 +142,9 @@ where
         if self.device.is_initialized() && lent.inputs.len().min(lent.list.len()) < count {
             return Err("19".to_string());
         }
-        let reply = self.bus.at + 3;
+        let field = self.bus.at;
         self.device.cell_voltages(self.bus).map_err(number)?;
-        let voltages = self.by_input(&self.bus.tape[reply..self.bus.at]);
+        let voltages = self.by_input(&self.bus.tape[field + 3..self.bus.at]);
         let mut line = "wired".to_string();
         for (place, input) in fitted(X, count).into_iter().enumerate() {
             (lent.inputs[place], lent.list[place]) = (input as u8, voltages[input - 1]);
