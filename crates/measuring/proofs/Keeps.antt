@@ -4,11 +4,11 @@ use mathlib.Core.Path.{_≡_, _∙_}
 use mathlib.Core.Bool.{true}
 use Prim.Native.Nat.{ℕ, min}
 use mathlib.Core.List.{List}
-use lib.IntN.{ℤ}
 use lib.ListN.{length}
+use Rattle.units.specs.declared.MilliVolts.{MilliVolts}
 use Rattle.bus.specs.Transfers.{Bus}
 use Rattle.bus.specs.Programs.{Ran, onTape}
-use Rattle.bq769x0.specs.Record.{isSound, adcOf}
+use Rattle.bq769x0.specs.Record.{isSound, adcOf, withCells}
 use Rattle.bq769x0.specs.declared.BQ769x0.{BQ769x0}
 use Rattle.bq769x0.proofs.Keeps.{cells-sound}
 use Rattle.measuring.specs.Inputs.{converted}
@@ -17,17 +17,18 @@ use Rattle.measuring.specs.Wired.{Shown, unshown, showing, readWired, wi
 use Rattle.measuring.proofs.Reading.{by-call}
 
 module _ (d : BQ769x0) (b : Bus) (e : isSound d ≡ true) where
-  taken-sound : (inputs : List ℤ) → isSound (taking d inputs) ≡ true
-  taken-sound inputs = cells-sound d (taking d inputs .cells) ∙ e
+  -- whatever cells it is left with
+  left : (cells : List MilliVolts) → isSound (withCells d cells) ≡ true
+  left cells = cells-sound d cells ∙ e
 
   pub cells-keep : (list : List ℕ) → isSound (onTape (cellVoltages d list) b .answer .device) ≡ true
   unfolding cellVoltages readCells
   cells-keep list =
       by-call d (length list) (untouched d list) (λ inputs. listed (taking d inputs) list) b (λ (x : Ran Filled). isSound (x .answer .device) ≡ true)
-      (λ r b′. e) (λ sound bytes b′ read. taken-sound (converted (adcOf d) bytes))
+      (λ r b′. left (untouched d list r .device .cells)) (λ sound bytes b′ read. left (taking d (converted (adcOf d) bytes) .cells))
 
   pub wired-keeps : (inputs list : List ℕ) → isSound (onTape (wired d inputs list) b .answer .device) ≡ true
   unfolding wired readWired
   wired-keeps inputs list =
       by-call d (min (length inputs) (length list)) (unshown d inputs list) (showing d inputs list) b (λ (x : Ran Shown). isSound (x .answer .device) ≡ true)
-      (λ r b′. e) (λ sound bytes b′ read. taken-sound (converted (adcOf d) bytes))
+      (λ r b′. left (unshown d inputs list r .device .cells)) (λ sound bytes b′ read. left (taking d (converted (adcOf d) bytes) .cells))
