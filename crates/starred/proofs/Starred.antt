@@ -10,7 +10,7 @@ use Rattle.settings.specs.Plan.{setFor, planFor}
 use Rattle.settings.specs.Registers.{protectFor}
 use Rattle.settings.specs.Steps.{shuntFor, stepsFor}
 use Rattle.settings.specs.Trips.{tripCodeFor, obtainableOr, withinFor}
-use Rattle.rows.specs.Rows.{Row, starred}
+use Rattle.starred.specs.Rows.{Row, starred}
 
 pub starred-hold : map (λ (row : Row). row .0) starred ≡ map (λ (row : Row). row .1) starred
 unfolding step mvAcross rangeFor codeFor checkByte divide line coefficient divisor number setFor planFor _>>=_ shuntFor stepsFor tripCodeFor obtainableOr withinFor protectFor
