@@ -17,18 +17,18 @@ use Rattle.measuring.specs.Wired.{Shown, unshown, showing, readWired, wi
 use Rattle.measuring.proofs.Reading.{by-call}
 
 module _ (d : BQ769x0) (b : Bus) (e : isSound d ≡ true) where
-  -- whatever cells it is left with
-  left : (cells : List MilliVolts) → isSound (withCells d cells) ≡ true
-  left cells = cells-sound d cells ∙ e
+  -- whatever cells a call leaves it with, refused or not
+  still-sound : (cells : List MilliVolts) → isSound (withCells d cells) ≡ true
+  still-sound cells = cells-sound d cells ∙ e
 
   pub cells-keep : (list : List ℕ) → isSound (onTape (cellVoltages d list) b .answer .device) ≡ true
   unfolding cellVoltages readCells
   cells-keep list =
       by-call d (length list) (untouched d list) (λ inputs. listed (taking d inputs) list) b (λ (x : Ran Filled). isSound (x .answer .device) ≡ true)
-      (λ r b′. left (untouched d list r .device .cells)) (λ sound bytes b′ read. left (taking d (converted (adcOf d) bytes) .cells))
+      (λ r b′. still-sound (untouched d list r .device .cells)) (λ sound bytes b′ read. still-sound (taking d (converted (adcOf d) bytes) .cells))
 
   pub wired-keeps : (inputs list : List ℕ) → isSound (onTape (wired d inputs list) b .answer .device) ≡ true
   unfolding wired readWired
   wired-keeps inputs list =
       by-call d (min (length inputs) (length list)) (unshown d inputs list) (showing d inputs list) b (λ (x : Ran Shown). isSound (x .answer .device) ≡ true)
-      (λ r b′. left (unshown d inputs list r .device .cells)) (λ sound bytes b′ read. left (taking d (converted (adcOf d) bytes) .cells))
+      (λ r b′. still-sound (unshown d inputs list r .device .cells)) (λ sound bytes b′ read. still-sound (taking d (converted (adcOf d) bytes) .cells))
