@@ -135,7 +135,7 @@ fn tell_ends(out: &mut [usize; 3], used: usize, logged: usize, five: &[u32; 5]) 
 }
 
 #[no_mangle]
-pub unsafe extern "C" fn entry_cells(
+pub unsafe extern "C" fn bench_cells(
     x: u8, cells: u8, address: u8, check: bool, gain: u16, b51: u8, shunt: u32,
     list: *mut u32, list_len: usize, tape: *const u8, tape_len: usize, log: *mut u8, log_len: usize, out: &mut [usize; 3],
 ) -> u8 {
@@ -146,7 +146,7 @@ pub unsafe extern "C" fn entry_cells(
 }
 
 #[no_mangle]
-pub unsafe extern "C" fn entry_current(
+pub unsafe extern "C" fn bench_current(
     x: u8, cells: u8, address: u8, check: bool, gain: u16, b51: u8, shunt: u32,
     tape: *const u8, tape_len: usize, log: *mut u8, log_len: usize, out: &mut [usize; 3],
 ) -> u8 {
@@ -156,7 +156,7 @@ pub unsafe extern "C" fn entry_current(
 }
 
 #[no_mangle]
-pub unsafe extern "C" fn entry_read_raw(
+pub unsafe extern "C" fn bench_read_raw(
     x: u8, address: u8, check: bool, reg: u8, data: *mut u8, data_len: usize,
     tape: *const u8, tape_len: usize, log: *mut u8, log_len: usize, out: &mut [usize; 3],
 ) -> u8 {

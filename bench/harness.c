@@ -3,7 +3,7 @@
  * with the Rust's; what the two print must be the same before anything is counted.
  */
 #include "bq769x0.h"
-#include "entries.h"
+#include "calls.h"
 #include <stdio.h>
 #include <stdlib.h>
 #include <string.h>
@@ -82,23 +82,23 @@ static int call(const char *name, int check) {
     }
     if (strcmp(name, "cells") == 0) {
         cells_tape(check);
-        return entry_cells((uint8_t)inputs, (uint8_t)cells, ADDRESS, check, GAIN, B51, SHUNT, numbers, (size_t)cells, tape, tape_len, log_,
+        return bench_cells((uint8_t)inputs, (uint8_t)cells, ADDRESS, check, GAIN, B51, SHUNT, numbers, (size_t)cells, tape, tape_len, log_,
                            sizeof log_, ends);
     }
 #ifdef WIRED
     if (strcmp(name, "wired") == 0) {
         cells_tape(check);
-        return entry_wired((uint8_t)inputs, (uint8_t)cells, ADDRESS, check, GAIN, B51, SHUNT, fitted, (size_t)cells, numbers, (size_t)cells, tape,
+        return bench_wired((uint8_t)inputs, (uint8_t)cells, ADDRESS, check, GAIN, B51, SHUNT, fitted, (size_t)cells, numbers, (size_t)cells, tape,
                            tape_len, log_, sizeof log_, ends);
     }
 #endif
     if (strcmp(name, "current") == 0) {
         done(check, discharging, 2);
-        return entry_current((uint8_t)inputs, (uint8_t)cells, ADDRESS, check, GAIN, B51, SHUNT, tape, tape_len, log_, sizeof log_, ends);
+        return bench_current((uint8_t)inputs, (uint8_t)cells, ADDRESS, check, GAIN, B51, SHUNT, tape, tape_len, log_, sizeof log_, ends);
     }
     if (strcmp(name, "read_raw") == 0) {
         cells_tape(check);
-        return entry_read_raw((uint8_t)inputs, ADDRESS, check, 0x0C, data, (size_t)(2 * inputs), tape, tape_len, log_, sizeof log_, ends);
+        return bench_read_raw((uint8_t)inputs, ADDRESS, check, 0x0C, data, (size_t)(2 * inputs), tape, tape_len, log_, sizeof log_, ends);
     }
     return 256;
 }

@@ -5,8 +5,8 @@ use Prim.Native.Nat.{ℕ, _≤_, _<_}
 use native.Mathlib.Omega.{arith}
 use lib.Signed.{mag}
 use mir.Syntax.{w8}
-use Rattle.signed.specs.Numbers.{asI8}
-use Rattle.signed.proofs.Signed.{twos-fits}
+use Rattle.numbers.specs.Numbers.{asI8}
+use Rattle.numbers.proofs.Signed.{twos-fits}
 use Rattle.adc.specs.Registers.{gainOf}
 
 pub gain-range : (b50 b59 : ℕ) → (365 ≤ gainOf b50 b59) × (gainOf b50 b59 ≤ 396)

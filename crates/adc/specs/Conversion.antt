@@ -4,8 +4,8 @@ use Prim.Native.Nat.{ℕ, _*_}
 use mathlib.Core.Bool.{_||_}
 use lib.Dec.{eqb, ltb}
 use lib.IntN.{ℤ, pos, _+ℤ_, _*ℤ_}
-use Rattle.signed.specs.Numbers.{_÷_}
-use Rattle.refusals.specs.Refusal.{Answer, value, refused, refusedIf, told}
+use Rattle.numbers.specs.Numbers.{_÷_}
+use Rattle.refusals.specs.Refusal.{Answer, value, refused, refusedIf, asRefusal}
 use Rattle.adc.specs.declared.counter.CurrentAnswer.{CurrentAnswer}
 use Rattle.adc.specs.declared.counter.CurrentAnswer.the-variants.{Flows, Refused}
 
@@ -24,4 +24,4 @@ milliamperes count shunt =
 
 abbrev pub asCurrent : CurrentAnswer → Answer ℤ
 asCurrent (Flows current) = value (current .0)
-asCurrent (Refused e) = refused (told e)
+asCurrent (Refused e) = refused (asRefusal e)

@@ -1,7 +1,7 @@
 -- The calibration registers: ADCGAIN1 (50), ADCOFFSET (51), ADCGAIN2 (59).
 -- Assumes nothing.
 use Prim.Native.Nat.{ℕ, _+_, _-_, _*_, _/_, _%_, _^_}
-use Rattle.signed.specs.Numbers.{asI8}
+use Rattle.numbers.specs.Numbers.{asI8}
 use Rattle.adc.specs.declared.transfer.AdcTransferFunction.{AdcTransferFunction}
 
 -- bits high to low of a byte, as a number

@@ -3,8 +3,8 @@
 use Prim.Native.Nat.{ℕ, _+_, _*_}
 use lib.Dec.{eqb}
 use lib.IntN.{ℤ, pos, _-ℤ_, _*ℤ_}
-use Rattle.signed.specs.Numbers.{_÷↓_, _%↓_, asU32}
-use Rattle.refusals.specs.Refusal.{Answer, value, refused, refusedIf, told}
+use Rattle.numbers.specs.Numbers.{_÷↓_, _%↓_, asU32}
+use Rattle.refusals.specs.Refusal.{Answer, value, refused, refusedIf, asRefusal}
 use Rattle.adc.specs.Conversion.{millivolts}
 use Rattle.adc.specs.declared.transfer.Limits.{Limits}
 use Rattle.adc.specs.declared.transfer.Asked.{Asked}
@@ -39,4 +39,4 @@ tripCode reading = reading ÷↓ 16 %↓ 256
 
 abbrev pub asAsked : Asked → Answer ℤ
 asAsked (Reading reading) = value reading
-asAsked (Refused e) = refused (told e)
+asAsked (Refused e) = refused (asRefusal e)

@@ -1,7 +1,7 @@
 // Division of a signed number with the quotient rounded down.
 ghost use mathlib.Core.Path.{_≡_};
 ghost use Prim.Native.Nat.{_<_};
-ghost use Rattle.signed.specs.Numbers.{_÷↓_, _%↓_};
+ghost use Rattle.numbers.specs.Numbers.{_÷↓_, _%↓_};
 
 pub(crate) struct Floor {
     pub quotient: i64,

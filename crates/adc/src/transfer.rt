@@ -2,7 +2,7 @@
 ghost use mathlib.Core.Path.{_≡_};
 ghost use Prim.Native.Nat.{_≤_, _*_};
 ghost use lib.IntN.{pos, _+ℤ_, _*ℤ_};
-ghost use Rattle.signed.specs.Numbers.{_÷_, asU32};
+ghost use Rattle.numbers.specs.Numbers.{_÷_, asU32};
 ghost use Rattle.adc.specs.Registers.{calibration};
 ghost use Rattle.adc.specs.Conversion.{millivolts, packMillivolts};
 ghost use Rattle.adc.specs.Trips.{ovTrip, uvTrip, limits, askedReading, asAsked};
@@ -33,7 +33,7 @@ impl AdcTransferFunction {
     {
         AdcTransferFunction {
             gain: 365 + ((b50 / 4 % 4) as u16 * 8 + (b59 / 32) as u16),
-            offset: signed::as_i8(b51),
+            offset: numbers::as_i8(b51),
         }
     }
 
@@ -48,7 +48,7 @@ impl AdcTransferFunction {
     pub fn apply(self, adc_reading: u16) -> MilliVolts
         ensures { λ r. ⌜ r .0 ≡ asU32 (millivolts (self .gain) (self .offset) «adc_reading») ⌝ }
     {
-        MilliVolts(signed::as_u32(self.millivolts(adc_reading)))
+        MilliVolts(numbers::as_u32(self.millivolts(adc_reading)))
     }
 
     // The pack's voltage, with the offset taken `offsets` times.
@@ -66,7 +66,7 @@ impl AdcTransferFunction {
     pub fn pack_voltage(self, offsets: u8, adc_reading: u16) -> MilliVolts
         ensures { λ r. ⌜ r .0 ≡ asU32 (packMillivolts offsets (self .gain) (self .offset) «adc_reading») ⌝ }
     {
-        MilliVolts(signed::as_u32(self.pack_millivolts(offsets, adc_reading)))
+        MilliVolts(numbers::as_u32(self.pack_millivolts(offsets, adc_reading)))
     }
 
     pub fn ov_voltage_range(self) -> Limits

@@ -6,9 +6,9 @@ use Prim.Native.Nat.{ℕ}
 use mathlib.Core.List.{List}
 use Rattle.laws.proofs.Inverse.{one-to-one}
 use Rattle.refusals.specs.Refusal.{Answer}
-use Rattle.refusals.proofs.Telling.{answerBack, untold-told}
-use Rattle.settings.specs.Plan.{Values, asInit}
-use Rattle.settings.proofs.Agree.{answer-agree}
+use Rattle.refusals.proofs.OneToOne.{answerBack, undone}
+use Rattle.plan.specs.Plan.{Values, asInit}
+use Rattle.plan.proofs.Agree.{answer-agree}
 use Rattle.bus.specs.Transfers.{Bus}
 use Rattle.bus.specs.Programs.{Prog, Ran, ran, onTape}
 use Rattle.bus.specs.Raw.{Done, asRaw}
@@ -20,7 +20,7 @@ use Rattle.bq769x0.specs.declared.record.New.{New}
 use Rattle.bq769x0.specs.declared.record.NewAnswer.{NewAnswer}
 use Rattle.bq769x0.specs.declared.record.NewAnswer.the-variants as N
 use Rattle.bq769x0.specs.declared.calibrate.Calibrated.{Calibrated}
-use Rattle.bq769x0.specs.declared.setting.Init.{Init}
+use Rattle.bq769x0.specs.declared.init.Init.{Init}
 
 -- `new`
 made : Done → NewAnswer
@@ -29,7 +29,7 @@ made x = N.Made
 made-undone : (a : NewAnswer) → answerBack made N.Refused (asMade a) ≡ a
 unfolding made
 made-undone N.Made = refl
-made-undone (N.Refused e) = ap N.Refused (untold-told e)
+made-undone (N.Refused e) = ap N.Refused (undone e)
 
 made-agree : (a b : NewAnswer) → asMade a ≡ asMade b → a ≡ b
 made-agree = one-to-one asMade (answerBack made N.Refused) made-undone

@@ -8,10 +8,10 @@ use Rattle.refusals.specs.Refusal.{Refusal, Answer, value, refused, answering}
 use Rattle.bus.specs.Transfers.{Bus}
 use Rattle.bus.specs.Programs.{Prog, ret, Ran, onTape, bind, _orLeave_, _>>=_}
 use Rattle.bus.specs.Raw.{Done, Read, gives, readRaw, readBytes}
-use Rattle.bus.specs.declared.raw.Setup.{Setup}
+use Rattle.bus.specs.declared.raw.Link.{Link}
 use Rattle.bus.proofs.Programs.{onTape-bind, went-on, went-off}
 
-module _ (s : Setup) (reg n : ℕ) (b : Bus) {b′ : Bus} {a : Answer Done} {bytes : List ℕ}
+module _ (s : Link) (reg n : ℕ) (b : Bus) {b′ : Bus} {a : Answer Done} {bytes : List ℕ}
     (e : record { answer = gives a bytes; bus = b′ } ≡ onTape (readRaw s reg (replicate n 0)) b) where
   heard : onTape (readBytes s reg n) b ≡ record { answer = answering a bytes; bus = b′ }
   unfolding readBytes onTape

@@ -8,23 +8,24 @@ use lib.Dec.{eqb, leb, ltb}
 use lib.ListN.{getD}
 use borrow.Author.Tests.{le-leb, ltb-false, ne-eqb}
 use native.Mathlib.Omega.{arith}
-use Rattle.refusals.specs.Refusal.{Refusal, Answer, value, refused}
+use Rattle.refusals.specs.Refusal.{Refusal, Answer, value, refused, nine}
 use Rattle.adc.specs.Registers.{gainOf}
 use Rattle.adc.proofs.Gain.{gain-range}
 use Rattle.units.specs.declared.MicroOhms.{MicroOhms}
-use Rattle.units.specs.declared.MilliVolts.{MilliVolts}
-use Rattle.settings.specs.Steps.{InMv, badShunt}
-use Rattle.settings.specs.Plan.{Values}
-use Rattle.settings.specs.declared.Config.{Config}
-use Rattle.settings.proofs.Needs.{plan-needs}
+use Rattle.plan.specs.Steps.{InMv, badShunt}
+use Rattle.plan.specs.Plan.{Values}
+use Rattle.plan.specs.declared.Config.{Config}
+use Rattle.plan.proofs.Needs.{plan-needs}
 use Rattle.bus.specs.Fields.{if_then_else_}
 use Rattle.bus.specs.Transfers.{Bus}
 use Rattle.bus.specs.Programs.{Prog, ret, Ran, onTape}
 use Rattle.bus.specs.Raw.{Done}
-use Rattle.bq769x0.specs.Record.{deviceFor, fresh, Left, leaves, leaving, nine, madeBy, newFor, accepts, calibratedRight, markedRight, Sound, isSound, withShunt, withCells}
+use Rattle.bq769x0.specs.Record.{Left, leaves, leaving, deviceFor, fresh, madeBy, newFor}
+use Rattle.bq769x0.specs.Record.{accepts, calibratedRight, markedRight, Sound, isSound, withShunt, withReadings}
 use Rattle.bq769x0.specs.Calibrate.{calibrated, calibrate, readAdcCharacteristics}
-use Rattle.bq769x0.specs.Init.{onward, onwardBy, counting, setting, initBy}
+use Rattle.bq769x0.specs.Init.{onward, onwardBy, startCounter, protect, initBy}
 use Rattle.bq769x0.specs.declared.BQ769x0.{BQ769x0}
+use Rattle.bq769x0.specs.declared.Readings.{Readings}
 use Rattle.bq769x0.proofs.Always.{always, on-tape, always-after, always-call, always-pure}
 use Rattle.bq769x0.proofs.Soundly.{sound-on}
 
@@ -37,7 +38,7 @@ accepted (refused r) e = absurd (false≢true e)
 pub decides : (d : BQ769x0) → isSound d ≡ true → Sound d
 unfolding isSound
 decides d e =
-    let taken = and-eq-true-iff (accepts (deviceFor (d .x) (d .«dev_address») (d .«cell_count»))) _ .0 e in
+    let taken = and-eq-true-iff (accepts (deviceFor (d .link .x) (d .link .address) (d .«cell_count»))) _ .0 e in
     let rest = and-eq-true-iff (calibratedRight d && leb (d .shunt .0) 2147483647) _ .0 (taken .1) in
     let first = and-eq-true-iff (calibratedRight d) _ .0 (rest .0) in
     record { device = accepted _ (taken .0); calibrated = first .0; shunted = first .1; marked = rest .1 }
@@ -78,7 +79,9 @@ calibrated-sound d first second e =
       device = s .device;
       calibrated = rw (le-leb 365 (gainOf b50 b59) (range .0), le-leb (gainOf b50 b59) 396 (range .1));
       shunted = s .shunted;
-      marked = another-gain (d .«init_complete») (eqb (d .shunt .0) 0) (eqb (d .«adc_gain») 0) (eqb (gainOf b50 b59) 0) (some-gain b50 b59) (s .marked);
+      marked =
+          another-gain (d .«init_complete») (eqb (d .shunt .0) 0) (eqb (d .adc .gain) 0) (eqb (gainOf b50 b59) 0)
+          (some-gain b50 b59) (s .marked);
     })
 
 -- the record that a call leaves is sound
@@ -98,10 +101,10 @@ read-adc-keeps d b e =
     ap (λ (r : Ran (Left Done)). isSound (r .answer .device)) (sound-on d (leaving d nine) (calibrate d) b e)
     ∙ on-tape Kept (calibrate d) (calibrate-keeps d e) b
 
--- ---- the cells, of which soundness does not speak
-pub cells-sound : (d : BQ769x0) (cells : List MilliVolts) → isSound (withCells d cells) ≡ isSound d
+-- ---- the readings, of which soundness does not speak
+pub readings-sound : (d : BQ769x0) (readings : Readings) → isSound (withReadings d readings) ≡ isSound d
 unfolding isSound
-cells-sound d cells = refl
+readings-sound d readings = refl
 
 -- ---- `init`, whatever way the steps are chosen
 neither : (a b : Bool) → (a || b) ≡ false → (a ≡ false) × (b ≡ false)
@@ -109,7 +112,7 @@ neither false b e = (refl, e)
 neither true b e = absurd (true≢false e)
 
 -- a shunt that is not refused is stored with the mark
-shunted-sound : (d : BQ769x0) (shunt : MicroOhms) → isSound d ≡ true → badShunt (shunt .0) ≡ false → eqb (d .«adc_gain») 0 ≡ false
+shunted-sound : (d : BQ769x0) (shunt : MicroOhms) → isSound d ≡ true → badShunt (shunt .0) ≡ false → eqb (d .adc .gain) 0 ≡ false
     → isSound (withShunt d shunt) ≡ true
 shunted-sound d shunt e good some =
     let s = decides d e in
@@ -122,20 +125,20 @@ shunted-sound d shunt e good some =
       marked = rw (fine .0, some);
     })
 
-counting-keeps : (d : BQ769x0) (values : Values) → isSound d ≡ true → always Kept (counting d values)
-unfolding counting always Kept
-counting-keeps d values e =
+start-counter-keeps : (d : BQ769x0) (values : Values) → isSound d ≡ true → always Kept (startCounter d values)
+unfolding startCounter always Kept
+start-counter-keeps d values e =
     always-call Kept (leaving d) _ (λ r. e) _ λ byte.
     always-call Kept (leaving d) _ (λ r. e) _ λ done.
     e
 
-setting-keeps : (config : Config) (steps : InMv) (d : BQ769x0) → isSound d ≡ true → always Kept (setting config steps d)
-unfolding setting Kept
-setting-keeps config steps d e =
+protect-keeps : (config : Config) (steps : InMv) (d : BQ769x0) → isSound d ≡ true → always Kept (protect config steps d)
+unfolding protect Kept
+protect-keeps config steps d e =
     always-pure Kept (leaving d) _ (λ r. e) _ λ plan accepted.
-    let needs = plan-needs (d .«adc_gain») (d .«adc_offset») config (steps .scd) (steps .ocd) plan accepted in
+    let needs = plan-needs (d .adc .gain) (d .adc .offset) config (steps .scd) (steps .ocd) plan accepted in
     always-call Kept (leaving d) _ (λ r. e) _ λ done.
-    counting-keeps (withShunt d (config .shunt)) (plan .values) (shunted-sound d (config .shunt) e (needs .0) (needs .1))
+    start-counter-keeps (withShunt d (config .shunt)) (plan .values) (shunted-sound d (config .shunt) e (needs .0) (needs .1))
 
 onward-keeps : (f : BQ769x0 → Prog (Left Values)) → ((d : BQ769x0) → isSound d ≡ true → always Kept (f d))
     → (left : Left Done) → Kept left → always Kept (onward f left)
@@ -153,5 +156,6 @@ init-keeps choose d config b e =
     ap (λ (r : Ran (Left Values)). isSound (r .answer .device)) (sound-on d (leaving d nine) _ b e)
     ∙ on-tape Kept _
     (always-call Kept (leaving d) _ (λ r. e) (ret (choose config)) λ steps.
-    always-after Kept Kept (calibrate d) (onward (setting config steps)) (calibrate-keeps d e) (onward-keeps (setting config steps) (setting-keeps config steps)))
+    always-after Kept Kept (calibrate d) (onward (protect config steps)) (calibrate-keeps d e)
+    (onward-keeps (protect config steps) (protect-keeps config steps)))
     b

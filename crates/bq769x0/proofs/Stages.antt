@@ -4,8 +4,8 @@ use mathlib.Core.Path.{_≡_, refl, sym, ap, _∙_}
 use Prim.Native.Nat.{ℕ}
 use mathlib.Core.List.{List}
 use Rattle.refusals.specs.Refusal.{Refusal, Answer, value, refused}
-use Rattle.settings.specs.Plan.{Values, Planned, Outcome, outcome, asInit, asPlan}
-use Rattle.settings.specs.declared.Plan.{Plan}
+use Rattle.plan.specs.Plan.{Values, Planned, Outcome, outcome, asInit, asPlan}
+use Rattle.plan.specs.declared.Plan.{Plan}
 use Rattle.bus.specs.Transfers.{Bus}
 use Rattle.bus.specs.Programs.{Prog, Ran, onTape, bind}
 use Rattle.bus.proofs.Programs.{onTape-bind}

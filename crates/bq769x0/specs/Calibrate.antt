@@ -3,11 +3,11 @@
 use Prim.Native.Nat.{ℕ}
 use mathlib.Core.List.{List}
 use lib.ListN.{getD}
-use Rattle.refusals.specs.Refusal.{value}
+use Rattle.refusals.specs.Refusal.{value, nine}
 use Rattle.adc.specs.Registers.{calibration}
 use Rattle.bus.specs.Programs.{Prog, ret, _orLeave_, _>>=_}
 use Rattle.bus.specs.Raw.{Done, readBytes}
-use Rattle.bq769x0.specs.Record.{Left, leaves, leaving, nine, setupOf, withCalibration}
+use Rattle.bq769x0.specs.Record.{Left, leaves, leaving, withCalibration}
 use Rattle.bq769x0.specs.Registers.{soundly}
 use Rattle.bq769x0.specs.declared.BQ769x0.{BQ769x0}
 
@@ -16,8 +16,8 @@ calibrated d first second = withCalibration d (calibration (getD first 0 0) (get
 
 unfoldable pub calibrate : BQ769x0 → Prog (Left Done)
 calibrate d = do
-  first ← readBytes (setupOf d) 0x50 2 orLeave leaving d
-  second ← readBytes (setupOf d) 0x59 1 orLeave leaving d
+  first ← readBytes (d .link) 0x50 2 orLeave leaving d
+  second ← readBytes (d .link) 0x59 1 orLeave leaving d
   ret (leaves (value tt) (calibrated d first second))
 
 unfoldable pub readAdcCharacteristics : BQ769x0 → Prog (Left Done)

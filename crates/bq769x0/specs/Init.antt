@@ -3,21 +3,16 @@
 use mathlib.Core.List.{[], _∷_}
 use lib.Bits.{bitOr}
 use lib.ListN.{getD}
-use Rattle.refusals.specs.Refusal.{Answer, value, refused}
-use Rattle.settings.specs.Steps.{InMv}
-use Rattle.settings.specs.Plan.{Values, planFor}
-use Rattle.settings.specs.declared.Config.{Config}
+use Rattle.refusals.specs.Refusal.{Answer, value, refused, nine}
+use Rattle.plan.specs.Steps.{InMv}
+use Rattle.plan.specs.Plan.{Values, planFor}
+use Rattle.plan.specs.declared.Config.{Config}
 use Rattle.bus.specs.Programs.{Prog, ret, bind, _orLeave_, _>>=_}
 use Rattle.bus.specs.Raw.{readBytes, writeRaw}
-use Rattle.bq769x0.specs.Record.{Left, leaves, leaving, nine, setupOf, withShunt}
+use Rattle.bq769x0.specs.Record.{Left, leaves, leaving, withShunt}
 use Rattle.bq769x0.specs.Registers.{soundly}
 use Rattle.bq769x0.specs.Calibrate.{calibrate}
 use Rattle.bq769x0.specs.declared.BQ769x0.{BQ769x0}
-
--- a refusal, whatever was to be answered; asked of refusals only
-abbrev pub refusalOf : {A B : Type 0} → Answer A → Answer B
-refusalOf (value a) = refused nine
-refusalOf (refused r) = refused r
 
 -- a stage, and the next one on the record that it leaves
 unfoldable pub onwardBy : {A B : Type 0} → (BQ769x0 → Prog (Left B)) → BQ769x0 → Answer A → Prog (Left B)
@@ -28,21 +23,21 @@ unfoldable pub onward : {A B : Type 0} → (BQ769x0 → Prog (Left B)) → Left 
 onward f left = onwardBy f (left .device) (left .answer)
 
 -- 05 as it was read, with bit 6, which lets the counter run
-unfoldable pub counting : BQ769x0 → Values → Prog (Left Values)
-counting d values = do
-  byte ← readBytes (setupOf d) 0x05 1 orLeave leaving d
-  _ ← writeRaw (setupOf d) 0x05 (bitOr (getD byte 0 0) 0b0100_0000 ∷ []) orLeave leaving d
+unfoldable pub startCounter : BQ769x0 → Values → Prog (Left Values)
+startCounter d values = do
+  byte ← readBytes (d .link) 0x05 1 orLeave leaving d
+  _ ← writeRaw (d .link) 0x05 (bitOr (getD byte 0 0) 0b0100_0000 ∷ []) orLeave leaving d
   ret (leaves (value values) d)
 
 -- the six bytes; once they are written the shunt and the mark are stored, whatever becomes of 05
-unfoldable pub setting : Config → InMv → BQ769x0 → Prog (Left Values)
-setting config steps d = do
-  plan ← ret (planFor (d .«adc_gain») (d .«adc_offset») config (steps .scd) (steps .ocd)) orLeave leaving d
-  _ ← writeRaw (setupOf d) 0x06 (plan .regs) orLeave leaving d
-  counting (withShunt d (config .shunt)) (plan .values)
+unfoldable pub protect : Config → InMv → BQ769x0 → Prog (Left Values)
+protect config steps d = do
+  plan ← ret (planFor (d .adc .gain) (d .adc .offset) config (steps .scd) (steps .ocd)) orLeave leaving d
+  _ ← writeRaw (d .link) 0x06 (plan .regs) orLeave leaving d
+  startCounter (withShunt d (config .shunt)) (plan .values)
 
 -- whatever way the steps are chosen
 unfoldable pub initBy : (Config → Answer InMv) → BQ769x0 → Config → Prog (Left Values)
 initBy choose d config = soundly d (leaving d nine) (do
   steps ← ret (choose config) orLeave leaving d
-  bind (calibrate d) (onward (setting config steps)))
+  bind (calibrate d) (onward (protect config steps)))

@@ -1,7 +1,5 @@
 // The converter's calibration, read from the chip.
-ghost use mathlib.Core.Path.{_≡_};
-ghost use Rattle.bus.specs.Transfers.{busOf};
-ghost use Rattle.bus.specs.Programs.{onTape, ran};
+ghost use Rattle.bus.specs.Lent.{does};
 ghost use Rattle.bus.specs.Raw.{asRaw};
 ghost use Rattle.bq769x0.specs.Record.{leaves};
 ghost use Rattle.bq769x0.specs.Calibrate.{calibrate, readAdcCharacteristics};
@@ -19,8 +17,7 @@ pub struct Calibrated {
 
 impl BQ769x0 {
     pub fn read_adc_characteristics(self, tape: &[u8], log: &mut [u8], at: Cursor) -> Calibrated
-        ensures { λ r. ⌜ ran (leaves (asRaw (r .answer)) (r .device)) (now (tape .entry)) (now (log .exit)) (r .at)
-            ≡ onTape (readAdcCharacteristics self) (busOf (now (tape .entry)) (now (log .entry)) at) ⌝ }
+        ensures { λ r. ⌜ does (readAdcCharacteristics self) tape log at (leaves (asRaw (r .answer)) (r .device)) (r .at) ⌝ }
     {
         if !self.is_sound() {
             return Calibrated {
@@ -34,12 +31,11 @@ impl BQ769x0 {
 
     // The two reads, on a record that is sound.
     pub(crate) fn calibrate(self, tape: &[u8], log: &mut [u8], at: Cursor) -> Calibrated
-        ensures { λ r. ⌜ ran (leaves (asRaw (r .answer)) (r .device)) (now (tape .entry)) (now (log .exit)) (r .at)
-            ≡ onTape (calibrate self) (busOf (now (tape .entry)) (now (log .entry)) at) ⌝ }
+        ensures { λ r. ⌜ does (calibrate self) tape log at (leaves (asRaw (r .answer)) (r .device)) (r .at) ⌝ }
     {
-        let setup = self.setup();
+        let link = self.link;
         let mut gain1_offset = [0u8; 2];
-        let first = setup.read_raw(Self::ADCGAIN1, &mut gain1_offset, tape, log, at);
+        let first = link.read_raw(Self::ADCGAIN1, &mut gain1_offset, tape, log, at);
         let answer = first.answer;
         let next = first.at;
         let RawAnswer::Done = answer else {
@@ -50,7 +46,7 @@ impl BQ769x0 {
             };
         };
         let mut gain2 = [0u8; 1];
-        let second = setup.read_raw(0x59, &mut gain2, tape, log, next);
+        let second = link.read_raw(0x59, &mut gain2, tape, log, next);
         let answer = second.answer;
         let next = second.at;
         let RawAnswer::Done = answer else {

@@ -1,20 +1,24 @@
 // The driver: its record, and the calls on it.
+use adc::transfer::AdcTransferFunction;
+use bus::raw::Link;
 use units::MicroOhms;
 use units::MilliVolts;
 
 pub mod calibrate;
+pub mod init;
 pub mod record;
 pub mod registers;
-pub mod setting;
 
 pub struct BQ769x0 {
-    pub x: u8,
-    pub dev_address: u8, // 7bit address
-    pub check: bool,
-    pub init_complete: bool,
-    pub adc_gain: u16, // uV / LSB
-    pub adc_offset: i8, // mV
-    pub shunt: MicroOhms,
+    pub link: Link,
     pub cell_count: u8,
+    pub adc: AdcTransferFunction,
+    pub shunt: MicroOhms,
+    pub init_complete: bool,
+    pub readings: Readings,
+}
+
+// What the last accepted reading gave.
+pub struct Readings {
     pub cells: [MilliVolts; 15],
 }

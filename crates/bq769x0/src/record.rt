@@ -1,9 +1,12 @@
-// The record: made by `new` alone, changed by the setters below, and sound or not.
+// The record: made by `new`, changed by the setters below, and sound or not.
 ghost use mathlib.Core.Path.{_≡_};
-ghost use Rattle.bq769x0.specs.Record.{deviceFor, asMade, asNew, newFor, fresh, calibratedRight, markedRight, isSound, setupOf, adcOf, withCalibration, withShunt, withCells};
+ghost use Rattle.refusals.specs.Refusal.{asRefusal, refusalIn};
+ghost use Rattle.bq769x0.specs.Record.{unread, ofParts, fresh, deviceFor, asMade, asNew, newFor, calibratedRight, markedRight, isSound};
+ghost use Rattle.bq769x0.specs.Record.{withCalibration, withShunt, withReadings};
 use crate::BQ769x0;
+use crate::Readings;
 use adc::transfer::AdcTransferFunction;
-use bus::raw::Setup;
+use bus::raw::Link;
 use refusals::Error;
 use units::MicroOhms;
 use units::MilliVolts;
@@ -17,6 +20,18 @@ pub enum NewAnswer {
 pub struct New {
     pub answer: NewAnswer,
     pub device: BQ769x0,
+}
+
+impl NewAnswer {
+    // Asked where it refuses.
+    pub fn refusal(self) -> Error
+        ensures { λ r. ⌜ asRefusal r ≡ refusalIn (asMade self) ⌝ }
+    {
+        match self {
+            NewAnswer::Made => Error::BadDevice,
+            NewAnswer::Refused(e) => e,
+        }
+    }
 }
 
 impl BQ769x0 {
@@ -48,16 +63,36 @@ impl BQ769x0 {
         }
     }
 
-    pub fn adc_gain(self) -> u16
-        ensures { λ r. ⌜ r ≡ self .«adc_gain» ⌝ }
+    // A record of these parts, sound or not, of which nothing is read yet: for benches.
+    pub fn of_parts(
+        link: Link,
+        cell_count: u8,
+        adc: AdcTransferFunction,
+        shunt: MicroOhms,
+        init_complete: bool,
+    ) -> BQ769x0
+        ensures { λ r. ⌜ r ≡ ofParts link «cell_count» adc shunt «init_complete» ⌝ }
     {
-        self.adc_gain
+        BQ769x0 {
+            link,
+            cell_count,
+            adc,
+            shunt,
+            init_complete,
+            readings: unread(),
+        }
+    }
+
+    pub fn adc_gain(self) -> u16
+        ensures { λ r. ⌜ r ≡ self .adc .gain ⌝ }
+    {
+        self.adc.gain
     }
 
     pub fn adc_offset(self) -> i8
-        ensures { λ r. ⌜ r ≡ self .«adc_offset» ⌝ }
+        ensures { λ r. ⌜ r ≡ self .adc .offset ⌝ }
     {
-        self.adc_offset
+        self.adc.offset
     }
 
     pub fn is_initialized(self) -> bool
@@ -69,11 +104,10 @@ impl BQ769x0 {
     pub fn is_sound(self) -> bool
         ensures { λ r. ⌜ r ≡ isSound self ⌝ }
     {
-        let x = self.x;
-        let dev_address = self.dev_address;
+        let link = self.link;
         let cell_count = self.cell_count;
         let shunt = self.shunt.0;
-        let NewAnswer::Made = device_answer(x, dev_address, cell_count) else {
+        let NewAnswer::Made = device_answer(link.x, link.address, cell_count) else {
             return false;
         };
         self.is_calibrated_right() & (shunt <= 2_147_483_647) & self.is_marked_right()
@@ -82,15 +116,15 @@ impl BQ769x0 {
     fn is_calibrated_right(self) -> bool
         ensures { λ r. ⌜ r ≡ calibratedRight self ⌝ }
     {
-        let gain = self.adc_gain;
-        let offset = self.adc_offset;
+        let gain = self.adc.gain;
+        let offset = self.adc.offset;
         ((365 <= gain) & (gain <= 396)) | ((gain == 0) & (offset == 0))
     }
 
     fn is_marked_right(self) -> bool
         ensures { λ r. ⌜ r ≡ markedRight self ⌝ }
     {
-        let gain = self.adc_gain;
+        let gain = self.adc.gain;
         let shunt = self.shunt.0;
         if self.init_complete {
             (shunt != 0) & (gain != 0)
@@ -99,31 +133,11 @@ impl BQ769x0 {
         }
     }
 
-    pub fn setup(self) -> Setup
-        ensures { λ r. ⌜ r ≡ setupOf self ⌝ }
-    {
-        Setup {
-            address: self.dev_address,
-            check: self.check,
-            x: self.x,
-        }
-    }
-
-    pub fn adc_transfer_function(self) -> AdcTransferFunction
-        ensures { λ r. ⌜ r ≡ adcOf self ⌝ }
-    {
-        AdcTransferFunction {
-            gain: self.adc_gain,
-            offset: self.adc_offset,
-        }
-    }
-
     pub(crate) fn store_calibration(self, adc: AdcTransferFunction) -> BQ769x0
         ensures { λ r. ⌜ r ≡ withCalibration self adc ⌝ }
     {
         let mut device = self;
-        device.adc_gain = adc.gain;
-        device.adc_offset = adc.offset;
+        device.adc = adc;
         device
     }
 
@@ -136,12 +150,12 @@ impl BQ769x0 {
         device
     }
 
-    // Soundness does not speak of the cells.
-    pub fn store_cells(self, cells: [MilliVolts; 15]) -> BQ769x0
-        ensures { λ r. ⌜ r ≡ withCells self cells ⌝ }
+    // Soundness does not speak of the readings.
+    pub fn store_readings(self, readings: Readings) -> BQ769x0
+        ensures { λ r. ⌜ r ≡ withReadings self readings ⌝ }
     {
         let mut device = self;
-        device.cells = cells;
+        device.readings = readings;
         device
     }
 }
@@ -162,18 +176,22 @@ fn device_answer(x: u8, dev_address: u8, cell_count: u8) -> NewAnswer
     NewAnswer::Made
 }
 
+fn unread() -> Readings
+    ensures { λ r. ⌜ r ≡ unread ⌝ }
+{
+    Readings {
+        cells: [MilliVolts(0); 15],
+    }
+}
+
 fn fresh(x: u8, dev_address: u8, cell_count: u8, check: bool) -> BQ769x0
     ensures { λ r. ⌜ r ≡ fresh x «dev_address» «cell_count» check ⌝ }
 {
-    BQ769x0 {
-        x,
-        dev_address,
+    let link = Link {
+        address: dev_address,
         check,
-        init_complete: false,
-        adc_gain: 0,
-        adc_offset: 0,
-        shunt: MicroOhms(0),
-        cell_count,
-        cells: [MilliVolts(0); 15],
-    }
+        x,
+    };
+    let adc = AdcTransferFunction { gain: 0, offset: 0 };
+    BQ769x0::of_parts(link, cell_count, adc, MicroOhms(0), false)
 }

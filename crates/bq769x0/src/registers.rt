@@ -1,7 +1,5 @@
 // The chip's registers, by a record: 9 first where it is not sound.
-ghost use mathlib.Core.Path.{_≡_};
-ghost use Rattle.bus.specs.Transfers.{busOf};
-ghost use Rattle.bus.specs.Programs.{onTape, ran};
+ghost use Rattle.bus.specs.Lent.{does};
 ghost use Rattle.bus.specs.Raw.{asRaw, gives};
 ghost use Rattle.bq769x0.specs.Registers.{readRaw, writeRaw};
 use crate::BQ769x0;
@@ -19,8 +17,8 @@ impl BQ769x0 {
         log: &mut [u8],
         at: Cursor,
     ) -> Raw
-        ensures { λ r. ⌜ ran (gives (asRaw (r .answer)) (now («data» .exit))) (now (tape .entry)) (now (log .exit)) (r .at)
-            ≡ onTape (readRaw self «reg_address» (now («data» .entry))) (busOf (now (tape .entry)) (now (log .entry)) at) ⌝ }
+        ensures { λ r. ⌜ does (readRaw self «reg_address» (now («data» .entry))) tape log at
+            (gives (asRaw (r .answer)) (now («data» .exit))) (r .at) ⌝ }
     {
         if !self.is_sound() {
             return Raw {
@@ -28,8 +26,8 @@ impl BQ769x0 {
                 at,
             };
         }
-        let setup = self.setup();
-        setup.read_raw(reg_address, data, tape, log, at)
+        let link = self.link;
+        link.read_raw(reg_address, data, tape, log, at)
     }
 
     pub fn write_raw(
@@ -40,8 +38,7 @@ impl BQ769x0 {
         log: &mut [u8],
         at: Cursor,
     ) -> Raw
-        ensures { λ r. ⌜ ran (asRaw (r .answer)) (now (tape .entry)) (now (log .exit)) (r .at)
-            ≡ onTape (writeRaw self «reg_address» (now («data» .entry))) (busOf (now (tape .entry)) (now (log .entry)) at) ⌝ }
+        ensures { λ r. ⌜ does (writeRaw self «reg_address» (now («data» .entry))) tape log at (asRaw (r .answer)) (r .at) ⌝ }
     {
         if !self.is_sound() {
             return Raw {
@@ -49,7 +46,7 @@ impl BQ769x0 {
                 at,
             };
         }
-        let setup = self.setup();
-        setup.write_raw(reg_address, data, tape, log, at)
+        let link = self.link;
+        link.write_raw(reg_address, data, tape, log, at)
     }
 }

@@ -1,15 +1,15 @@
--- Two outcomes that meet one promise agree: in the answer, the tape's and the log's position, the log's bytes and the caller's bytes.
+-- Two outcomes that meet one promise agree:
+-- in the answer, the tape's and the log's position, the log's bytes and the caller's bytes.
 -- Assumes nothing.
 use mathlib.Core.Path.{_≡_, refl, sym, ap, _∙_}
 use Prim.Native.Nat.{ℕ}
 use mathlib.Core.List.{List}
 use Rattle.laws.proofs.Inverse.{one-to-one}
 use Rattle.refusals.specs.Refusal.{Answer}
-use Rattle.refusals.proofs.Telling.{answerBack, untold-told}
+use Rattle.refusals.proofs.OneToOne.{answerBack, undone}
 use Rattle.bus.specs.Transfers.{Bus}
 use Rattle.bus.specs.Programs.{Prog, Ran, ran, onTape}
 use Rattle.bus.specs.Raw.{Done, Read, asRaw, gives}
-use Rattle.bus.specs.declared.Cursor.{Cursor}
 use Rattle.bus.specs.declared.raw.Raw.{Raw}
 use Rattle.bus.specs.declared.raw.RawAnswer.{RawAnswer}
 use Rattle.bus.specs.declared.raw.RawAnswer.the-variants as R
@@ -20,7 +20,7 @@ finished x = R.Done
 raw-undone : (a : RawAnswer) → answerBack finished R.Refused (asRaw a) ≡ a
 unfolding finished
 raw-undone R.Done = refl
-raw-undone (R.Refused e) = ap R.Refused (untold-told e)
+raw-undone (R.Refused e) = ap R.Refused (undone e)
 
 pub raw-agree : (a b : RawAnswer) → asRaw a ≡ asRaw b → a ≡ b
 raw-agree = one-to-one asRaw (answerBack finished R.Refused) raw-undone

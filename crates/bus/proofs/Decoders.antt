@@ -1,20 +1,22 @@
--- The decoders undo the encoders: a field, a transfer's field in the log, an outcome's field on the tape, and a whole log; and a field that was decoded is its encoding.
+-- The decoders undo the encoders: a field, a transfer's field in the log, an outcome's field on the tape, and a whole log;
+-- and a field that was decoded is its encoding.
 -- A length is two bytes, so each holds below 65536.
 -- Assumes nothing.
 use mathlib.Core.Path.{_≡_, refl, ap, _∙_, subst}
 use mathlib.Core.Bool.{Bool, true, false}
 use mathlib.Core.List.{List, [], _∷_, _++_, map}
-use mathlib.Core.Option.{Option, none, some, bind, Option·map, Option·some-injective, Option·none-ne-some}
+use mathlib.Core.Option.{none, some, bind, Option·map, Option·some-injective, Option·none-ne-some}
 use Prim.Native.Nat.{ℕ, suc, zero, _/_, _%_, _≤_, _<_}
 use native.Mathlib.Omega.{arith}
 use lib.ListN.{length, take, drop, getD, length-append, take-append-drop}
 use lib.Seq.{take-at, drop-at, length-take-le}
 use lib.Dec.{leb}
 use borrow.Author.Tests.{le-leb, leb-true, eq-eqb}
-use Rattle.signed.specs.Numbers.{word}
+use Rattle.numbers.specs.Numbers.{word}
 use Rattle.bus.specs.Fields.{if_then_else_, field, Field, unfield}
 use Rattle.bus.specs.Decoders.{unlog, transfersIn}
-use Rattle.bus.specs.Transfers.{Transfer, write, read, Outcome, done, fault, stopped, logField, tapeField, untape, says}
+use Rattle.bus.specs.Transfers.{Transfer, write, read, Outcome, done, fault, stopped}
+use Rattle.bus.specs.Transfers.{logField, tapeField, untape, says}
 use Rattle.bus.proofs.Framed.{Made, logged}
 
 -- ---- a field
@@ -39,7 +41,8 @@ pub record Whole (bytes : List ℕ) (f : Field) : Type 0 where
   pub short : length (f .value) < 65536
 
 module _ (tag high low : ℕ) (bytes : List ℕ) (h : high < 256) (l : low < 256) where
-  whole : word high low ≤ length bytes → Whole (tag ∷ high ∷ low ∷ bytes) (fieldOf tag (take (word high low) bytes) (drop (word high low) bytes))
+  whole : word high low ≤ length bytes
+      → Whole (tag ∷ high ∷ low ∷ bytes) (fieldOf tag (take (word high low) bytes) (drop (word high low) bytes))
   unfolding field
   whole k =
       let size = length-take-le (word high low) bytes k in
@@ -54,7 +57,8 @@ module _ (tag high low : ℕ) (bytes : List ℕ) (h : high < 256) (l : low < 256
   whole-if f false e q = absurd (Option·none-ne-some _ q)
 
 -- the other way, where the two bytes of the length are bytes
-pub field-unfield : (bytes : List ℕ) (f : Field) → unfield bytes ≡ some f → getD bytes 1 0 < 256 → getD bytes 2 0 < 256 → Whole bytes f
+pub field-unfield : (bytes : List ℕ) (f : Field) → unfield bytes ≡ some f → getD bytes 1 0 < 256 → getD bytes 2 0 < 256
+    → Whole bytes f
 unfolding unfield
 field-unfield [] f e h l = absurd (Option·none-ne-some _ e)
 field-unfield (tag ∷ []) f e h l = absurd (Option·none-ne-some _ e)
@@ -71,8 +75,18 @@ Short (read address reg count) = count < 65536
 pub unlog-log : (t : Transfer) (rest : List ℕ) → Short t
     → (f : Field) × (unfield (logField t ++ rest) ≡ some f) × (f .rest ≡ rest) × (unlog f ≡ some t)
 unfolding logField unlog
-unlog-log (write address bytes) rest h = (_, unfield-field 0x11 (address ∷ bytes) rest h, refl, rw (le-leb 1 (suc (length bytes)) (omega arith)))
-unlog-log (read address reg count) rest h = (_, unfield-field 0x12 (address ∷ reg ∷ count / 256 % 256 ∷ count % 256 ∷ []) rest (omega arith), refl, rw (two-bytes count h))
+unlog-log (write address bytes) rest h = (
+  _,
+  unfield-field 0x11 (address ∷ bytes) rest h,
+  refl,
+  rw (le-leb 1 (suc (length bytes)) (omega arith)),
+)
+unlog-log (read address reg count) rest h = (
+  _,
+  unfield-field 0x12 (address ∷ reg ∷ count / 256 % 256 ∷ count % 256 ∷ []) rest (omega arith),
+  refl,
+  rw (two-bytes count h),
+)
 
 -- ---- an outcome on the tape
 
@@ -112,11 +126,13 @@ fewer (write address bytes) o h = simp length-append (omega arith)
 fewer (read address reg count) o h = omega arith
 
 -- as many steps as bytes suffice
-pub transfers-logged : (h : List Made) (n : ℕ) → AllShort h → length (logged h) ≤ n → transfersIn n (logged h) ≡ some (map (λ m. m .0) h)
+pub transfers-logged : (h : List Made) (n : ℕ) → AllShort h → length (logged h) ≤ n
+    → transfersIn n (logged h) ≡ some (map (λ m. m .0) h)
 unfolding transfersIn logged
 transfers-logged [] zero s k = refl
 transfers-logged [] (suc n) s k = refl
 transfers-logged (m ∷ h) zero s k = absurd (omega (arith, fewer (m .0) (m .1) h))
 transfers-logged (m ∷ h) (suc n) s k =
     let u = unlog-log (m .0) (logged h) (s .0) in
-    first-in n _ (u .0) (m .0) (u .1) (u .3) ∙ rw (u .2, transfers-logged h n (s .1) (omega (arith, fewer (m .0) (m .1) h)))
+    first-in n _ (u .0) (m .0) (u .1) (u .3)
+    ∙ rw (u .2, transfers-logged h n (s .1) (omega (arith, fewer (m .0) (m .1) h)))

@@ -10,21 +10,24 @@ use Rattle.check_byte.specs.CheckByte.{checkByte, divide, line, coefficient, di
 use Rattle.frames.specs.Frames.{readByte, writeByte, checked, right, dataOf, writeFrame, readFrame, framed}
 use Rattle.frames.specs.Put.{put}
 use Rattle.bus.specs.Fields.{field, unfield}
-use Rattle.bus.specs.Transfers.{done, logField, tapeField, wanted, untape, says, busOf, moved, after, answered, outcome}
+use Rattle.bus.specs.Transfers.{done, busOf}
+use Rattle.bus.specs.Transfers.{logField, tapeField, wanted, untape, says, moved, after, answered, outcome}
 use Rattle.bus.specs.Programs.{Prog, ran, onTape, bind, proceed, _orLeave_, _>>=_}
-use Rattle.bus.specs.Raw.{Done, plainly, received, whereRight, checkedly, plainRead, askFrame, checkedRead, readRaw, readBytes, wrote, askWrite, send, compared, verified, askBack, writeRaw}
-use Rattle.bus.specs.declared.raw.Setup.{Setup}
+use Rattle.bus.specs.Raw.{Done, plainly, received, whereRight, checkedly}
+use Rattle.bus.specs.Raw.{plainRead, askFrame, checkedRead, readRaw, readBytes}
+use Rattle.bus.specs.Raw.{wrote, askWrite, send, compared, verified, askBack, writeRaw}
+use Rattle.bus.specs.declared.raw.Link.{Link}
 
-setup : Bool → Setup
-setup check = record { address = 8; check = check; x = 5 }
+link : Bool → Link
+link check = record { address = 8; check = check; x = 5 }
 
 example : Bool → Prog (Answer Done)
 example check = do
-  _ ← readBytes (setup check) 0x50 2 orLeave refused
-  _ ← readBytes (setup check) 0x59 1 orLeave refused
-  _ ← writeRaw (setup check) 0x06 (0x13 ∷ 0x55 ∷ 0x50 ∷ 0xCF ∷ 0xDF ∷ 0x19 ∷ []) orLeave refused
-  _ ← readBytes (setup check) 0x05 1 orLeave refused
-  writeRaw (setup check) 0x05 (0x40 ∷ [])
+  _ ← readBytes (link check) 0x50 2 orLeave refused
+  _ ← readBytes (link check) 0x59 1 orLeave refused
+  _ ← writeRaw (link check) 0x06 (0x13 ∷ 0x55 ∷ 0x50 ∷ 0xCF ∷ 0xDF ∷ 0x19 ∷ []) orLeave refused
+  _ ← readBytes (link check) 0x05 1 orLeave refused
+  writeRaw (link check) 0x05 (0x40 ∷ [])
 
 -- ---- without checks
 plain-tape : List ℕ
@@ -51,7 +54,9 @@ plain-log =
 
 plain-run : onTape (example false) (busOf plain-tape (replicate 60 0) (record { tape = 0; log = 0 }))
     ≡ ran (value tt) plain-tape (plain-log ++ replicate 8 0) (record { tape = 32; log = 52 })
-unfolding example setup plain-tape plain-log onTape bind _>>=_ proceed readBytes readRaw plainRead plainly wrote askWrite send compared verified askBack writeRaw writeFrame framed field unfield logField tapeField wanted untape says moved after answered outcome put
+unfolding example link plain-tape plain-log onTape bind _>>=_ proceed
+    readBytes readRaw plainRead plainly wrote askWrite send compared verified askBack writeRaw
+    writeFrame framed field unfield logField tapeField wanted untape says moved after answered outcome put
 plain-run = refl
 
 -- ---- with checks
@@ -74,5 +79,9 @@ checked-log =
 
 checked-run : onTape (example true) (busOf checked-tape (replicate 45 0) (record { tape = 0; log = 0 }))
     ≡ ran (value tt) checked-tape checked-log (record { tape = 23; log = 45 })
-unfolding example setup checked-tape checked-log onTape bind _>>=_ proceed readBytes readRaw checkedRead askFrame checkedly received whereRight wrote askWrite send writeRaw writeFrame readFrame framed checked right dataOf readByte writeByte checkByte divide line coefficient divisor number field unfield logField tapeField wanted untape says moved after answered outcome put
+unfolding example link checked-tape checked-log onTape bind _>>=_ proceed
+    readBytes readRaw checkedRead askFrame checkedly received whereRight wrote askWrite send writeRaw
+    writeFrame readFrame framed checked right dataOf readByte writeByte
+    checkByte divide line coefficient divisor number
+    field unfield logField tapeField wanted untape says moved after answered outcome put
 checked-run = refl

@@ -1,6 +1,6 @@
 -- A field's bytes, store by store.
 -- Assumes nothing.
-use mathlib.Core.Path.{_≡_, sym, ap, _∙_}
+use mathlib.Core.Path.{_≡_, ap, _∙_}
 use mathlib.Core.List.{List, [], _∷_}
 use Prim.Native.Nat.{ℕ, _+_, _≤_}
 use native.Mathlib.Numerals.{add-one, add-two, add-three}
@@ -11,7 +11,8 @@ use Rattle.frames.proofs.Put.{put-put, sets-put}
 
 -- a field's head, and then what follows it
 pub put-head : (l : List ℕ) (at a b c d : ℕ) (rest : List ℕ) → at + (4 + length rest) ≤ length l
-    → put (set (set (set (set l at a) (at + 1) b) (at + 2) c) (at + 3) d) (at + 4) rest ≡ put l at (a ∷ b ∷ c ∷ d ∷ rest)
+    → put (set (set (set (set l at a) (at + 1) b) (at + 2) c) (at + 3) d) (at + 4) rest
+    ≡ put l at (a ∷ b ∷ c ∷ d ∷ rest)
 put-head l at a b c d rest room =
     let v : List ℕ = a ∷ b ∷ c ∷ d ∷ [] in
     let r : at + length v ≤ length l = omega arith in

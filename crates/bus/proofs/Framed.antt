@@ -1,5 +1,5 @@
--- What every program leaves on every tape and log: the tape as it was, in the log one field for each transfer made, in order and one behind the other,
--- every other byte of the log as it was, and both positions moved past the fields.
+-- What every program leaves on every tape and log: the tape as it was, in the log one field for each transfer made, in
+-- order and one behind the other, every other byte of the log as it was, and both positions moved past the fields.
 -- Assumes nothing.
 use mathlib.Core.Path.{_≡_, refl, sym, _∙_}
 use mathlib.Core.Logic.{_⊎_, inl, inr, ⊎-elim}
@@ -15,7 +15,8 @@ use Rattle.refusals.specs.Refusal.{no}
 use Rattle.frames.specs.Put.{put}
 use Rattle.frames.proofs.Put.{put-none, length-put, put-put, take-before, take-put, drop-put}
 use Rattle.bus.specs.Fields.{if_then_else_}
-use Rattle.bus.specs.Transfers.{Transfer, Outcome, done, fault, stopped, logField, tapeField, Bus, moved, after, answered, outcome}
+use Rattle.bus.specs.Transfers.{Transfer, Outcome, done, fault, stopped, Bus}
+use Rattle.bus.specs.Transfers.{logField, tapeField, moved, after, answered, outcome}
 use Rattle.bus.specs.Programs.{Prog, ret, ask, Ran, onTape}
 
 -- a transfer made, and how it went
@@ -89,7 +90,8 @@ room-more n m h r (inl e) = rw e (omega arith)
 room-more n m h r (inr q) = q
 
 module _ (t : Transfer) (b b′ : Bus) (h : List Made) where
-  framed-made : (o : Outcome) → Room b (logField t) → Framed (moved (tapeField o) (logField t) b) b′ h → Framed b b′ ((t, o) ∷ h)
+  framed-made : (o : Outcome) → Room b (logField t) → Framed (moved (tapeField o) (logField t) b) b′ h
+      → Framed b b′ ((t, o) ∷ h)
   unfolding logged taken moved
   framed-made o r f =
       let q = room-more _ _ h (rw (length-put (b .log) (b .at .log) (logField t) r) r) (f .room) in
@@ -101,7 +103,8 @@ module _ (t : Transfer) (b b′ : Bus) (h : List Made) where
         room = inr (rw (length-append, ← add-assoc) (rw (length-put (b .log) (b .at .log) (logField t) r) at q));
       }
 
-  framed-step : (o : Outcome) → (Delivered o → Room b (logField t)) → Framed (after t o b) b′ h → Framed b b′ (made t o h)
+  framed-step : (o : Outcome) → (Delivered o → Room b (logField t)) → Framed (after t o b) b′ h
+      → Framed b b′ (made t o h)
   unfolding after made
   framed-step (done bytes) r f = framed-made (done bytes) (r tt) f
   framed-step (fault bytes) r f = framed-made (fault bytes) (r tt) f
@@ -111,13 +114,15 @@ module _ (t : Transfer) (b b′ : Bus) (h : List Made) where
 pub framed : {A : Type 0} (p : Prog A) (b : Bus) → Framed b (onTape p b .bus) (history p b)
 unfolding onTape history
 framed (ret a) b = framed-none b
-framed (ask t k) b = framed-step t b _ _ (outcome t b) (room-made t b) (framed (k (outcome t b)) (after t (outcome t b) b))
+framed (ask t k) b =
+    framed-step t b _ _ (outcome t b) (room-made t b) (framed (k (outcome t b)) (after t (outcome t b) b))
 
 -- ---- so of the log
 
 module _ {b b′ : Bus} {h : List Made} (f : Framed b b′ h) where
   -- no transfer was made, or there was room for all
-  either : (P : List ℕ → Type 0) → (h ≡ [] → P (b .log)) → (Room b (logged h) → P (put (b .log) (b .at .log) (logged h))) → P (b′ .log)
+  either : (P : List ℕ → Type 0) → (h ≡ [] → P (b .log))
+      → (Room b (logged h) → P (put (b .log) (b .at .log) (logged h))) → P (b′ .log)
   unfolding logged
   either P p q = rw (f .log) (⊎-elim (λ (e : h ≡ []). rw (e, put-none) (p e)) q (f .room))
 
@@ -131,15 +136,20 @@ module _ {b b′ : Bus} {h : List Made} (f : Framed b b′ h) where
   -- the fields follow it
   pub log-now : take (b′ .at .log) (b′ .log) ≡ take (b .at .log) (b .log) ++ logged h
   unfolding logged
-  log-now = rw (f .log-used) (either (λ l. take (b .at .log + length (logged h)) l ≡ take (b .at .log) (b .log) ++ logged h) (λ e. rw (e, add-zero, append-nil)) (take-put _ _ _))
+  log-now =
+      rw (f .log-used)
+      (either (λ l. take (b .at .log + length (logged h)) l ≡ take (b .at .log) (b .log) ++ logged h)
+      (λ e. rw (e, add-zero, append-nil)) (take-put _ _ _))
 
   -- and behind them nothing changes
   pub log-after : drop (b′ .at .log) (b′ .log) ≡ drop (b′ .at .log) (b .log)
   log-after =
       let end = b .at .log + length (logged h) in
-      rw (f .log-used) (either (λ l. drop end l ≡ drop end (b .log)) (λ e. refl) (λ r. rw (add-zero end) at (drop-put (b .log) (b .at .log) (logged h) r 0)))
+      rw (f .log-used)
+      (either (λ l. drop end l ≡ drop end (b .log))
+      (λ e. refl) (λ r. rw (add-zero end) at (drop-put (b .log) (b .at .log) (logged h) r 0)))
 
--- ---- a run is determined by the program, the tape, the log and the positions: no clock, no chance, nothing kept elsewhere
+-- ---- a run is determined by program, tape, log and positions: no clock, no chance, nothing kept elsewhere
 
 pub record Same {A : Type 0} (x y : Ran A) : Type 0 where
   pub answer : x .answer ≡ y .answer

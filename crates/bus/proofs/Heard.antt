@@ -6,19 +6,18 @@ use Prim.Native.Nat.{ℕ, suc, _+_, _-_, _≤_, _<_}
 use mathlib.Core.List.{List, [], _∷_}
 use native.Mathlib.Numerals.{add-one, add-two, add-three}
 use native.Mathlib.Omega.{arith}
-use lib.ListN.{length, take, drop, getD, length-drop, drop-of-length-le}
+use lib.ListN.{length, take, drop, getD, length-drop}
 use lib.Seq.{drop-cons, length-take-le}
 use lib.Dec.{T, eqb, leb, eqb→eq, leb→le}
 use borrow.Author.Tests.{le-leb, lt-leb}
-use Rattle.laws.proofs.Tests.{both-left, both-right}
-use Rattle.signed.specs.Numbers.{word}
-use Rattle.refusals.specs.Refusal.{no, told}
+use Rattle.laws.proofs.Tests.{both-right}
+use Rattle.numbers.specs.Numbers.{word}
+use Rattle.refusals.specs.Refusal.{no, asRefusal}
 use Rattle.refusals.specs.declared.Error.{Error}
 use Rattle.refusals.specs.declared.Error.the-variants as E
-use Rattle.bus.specs.Fields.{if_then_else_, Field, unfield}
-use Rattle.bus.specs.Transfers.{Outcome, done, fault, stopped, untape, says, answered}
+use Rattle.bus.specs.Fields.{if_then_else_, unfield}
+use Rattle.bus.specs.Transfers.{Outcome, done, fault, stopped, untape, says}
 use Rattle.bus.specs.Replies.{judged, outcomeOf, Within, Heard}
-use Rattle.bus.specs.declared.transfer.Reply.{Reply}
 use Rattle.bus.specs.declared.transfer.Reply.the-variants.{Made, Stopped}
 
 -- ---- a reply within its bounds
@@ -66,7 +65,8 @@ module _ (want tag high low : ℕ) (bytes : List ℕ) where
   by-tag v e false false = refl
 
   within : len ≤ length bytes → (a b : Bool) → (T a → T is-done) → (T b → T is-fault)
-      → Within want (suc (suc (suc (length bytes)))) (if a then Made false len else if b then Made true len else Stopped E.BadTape)
+      → Within want (suc (suc (suc (length bytes))))
+      (if a then Made false len else if b then Made true len else Stopped E.BadTape)
   unfolding is-done is-fault
   within h true b d f =
       (eqb→eq len want (both-right (eqb tag 0x01) (eqb len want) (d tt)), omega arith)
@@ -79,8 +79,8 @@ module _ (want tag high low : ℕ) (bytes : List ℕ) where
   unfolding says unfield untape is-done is-fault
   says-whole h =
       record {
-        said = rw (le-leb _ _ h, length-take-le len bytes h) (by-tag (take len bytes) refl (eqb tag 0x01 && eqb len want) (eqb tag 0x02 && leb len want));
-        within = within h (eqb tag 0x01 && eqb len want) (eqb tag 0x02 && leb len want) (λ t. t) (λ t. t);
+        said = rw (le-leb _ _ h, length-take-le len bytes h) (by-tag (take len bytes) refl is-done is-fault);
+        within = within h is-done is-fault (λ t. t) (λ t. t);
       }
 
 -- ---- the same on a tape, from a position on
@@ -102,7 +102,9 @@ module _ (want at : ℕ) (l : List ℕ) where
   at-short h k = says-short want (drop at l) (simp length-drop (omega arith)) (simp length-drop (omega arith))
 
   pub at-cut : at + 3 ≤ length l → length l - at - 3 < said-len → says want (drop at l) ≡ stopped (no 15 [])
-  at-cut h k = ap (says want) (head h) ∙ says-cut want (getD l at 0) _ _ (drop (at + 3) l) (simp length-drop (omega arith))
+  at-cut h k =
+      ap (says want) (head h)
+      ∙ says-cut want (getD l at 0) _ _ (drop (at + 3) l) (simp length-drop (omega arith))
 
   pub at-whole : at + 3 ≤ length l → said-len ≤ length l - at - 3
       → Heard want (drop at l) (says want (drop at l)) (judged want (getD l at 0) said-len)
@@ -111,5 +113,6 @@ module _ (want at : ℕ) (l : List ℕ) where
       (says-whole want (getD l at 0) _ _ (drop (at + 3) l) (simp length-drop (omega arith)))
 
 -- a reply that stops, from the number that the tape's rest, or the log's room, gives
-pub stops : (want : ℕ) (rest : List ℕ) (answer : Outcome) (e : Error) → answer ≡ stopped (told e) → Heard want rest answer (Stopped e)
+pub stops : (want : ℕ) (rest : List ℕ) (answer : Outcome) (e : Error) → answer ≡ stopped (asRefusal e)
+    → Heard want rest answer (Stopped e)
 stops want rest answer e said = record { said = sym said; within = tt }

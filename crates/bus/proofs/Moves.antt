@@ -2,23 +2,22 @@
 -- Assumes nothing.
 use mathlib.Core.Path.{_≡_, refl, sym, ap, subst, _∙_}
 use mathlib.Core.Bool.{Bool, true, false}
-use Prim.Native.Nat.{ℕ, suc, _+_, _-_, _≤_, _<_}
+use Prim.Native.Nat.{ℕ, suc, _+_, _-_, _≤_}
 use mathlib.Core.List.{List, []}
 use native.Mathlib.Omega.{arith}
 use lib.ListN.{length, take, drop, length-drop}
 use lib.Seq.{drop-drop, length-take-le}
 use lib.Dec.{T, leb}
 use borrow.Author.Tests.{leb-true}
-use Rattle.refusals.specs.Refusal.{Refusal, no, told}
+use Rattle.refusals.specs.Refusal.{Refusal, no, asRefusal}
 use Rattle.refusals.specs.declared.Error.{Error}
 use Rattle.frames.specs.Put.{put}
 use Rattle.frames.proofs.Put.{take-front}
 use Rattle.bus.specs.Fields.{if_then_else_, field}
-use Rattle.bus.specs.Transfers.{Transfer, read, write, Outcome, done, fault, stopped, logField, tapeField, wanted, Bus, busOf, moved, after, says, answered, outcome}
+use Rattle.bus.specs.Transfers.{Transfer, Outcome, stopped, Bus, busOf}
+use Rattle.bus.specs.Transfers.{logField, tapeField, wanted, moved, after, answered, outcome}
 use Rattle.bus.specs.Replies.{delivered, outcomeOf, Within, Heard, storedIn, WentBy, ReadBy, WrittenBy}
 use Rattle.bus.proofs.Heard.{few, fitting}
-use Rattle.bus.specs.declared.Cursor.{Cursor}
-use Rattle.bus.specs.declared.transfer.Moved.{Moved}
 use Rattle.bus.specs.declared.transfer.Reply.{Reply}
 use Rattle.bus.specs.declared.transfer.Reply.the-variants.{Made, Stopped}
 
@@ -27,13 +26,18 @@ not-stopped : {X : Type 0} (f : Bool) (v : List ℕ) (r : Refusal) → delivered
 not-stopped true v r e = let z : _≡_ {A = ℕ} 0 1 = cc in absurd (omega arith)
 not-stopped false v r e = let z : _≡_ {A = ℕ} 0 1 = cc in absurd (omega arith)
 
-room-if : (f : Bool) (v : List ℕ) (o : Outcome) (p q : ℕ) (c : Bool) → leb p q ≡ c → delivered f v ≡ (if c then o else stopped (no 17 [])) → p ≤ q
+room-if : (f : Bool) (v : List ℕ) (o : Outcome) (p q : ℕ) (c : Bool) → leb p q ≡ c
+    → delivered f v ≡ (if c then o else stopped (no 17 [])) → p ≤ q
 room-if f v o p q true e h = leb-true p q e
 room-if f v o p q false e h = not-stopped f v (no 17 []) h
 
 stored-made : (buf v : List ℕ) (f : Bool) → storedIn buf (delivered f v) ≡ put buf 0 v
 stored-made buf v true = refl
 stored-made buf v false = refl
+
+-- a reply that says what becomes of this transfer on this bus
+abbrev pub Replied : Transfer → Bus → Reply → Type 0
+Replied t b r = Heard (wanted t) (drop (b .at .tape) (b .tape)) (outcome t b) r
 
 module _ (t : Transfer) (b : Bus) where
   abbrev from : ℕ
@@ -44,12 +48,16 @@ module _ (t : Transfer) (b : Bus) where
 
   -- ---- not made: tape, log and buffer as they were
   module _ (rest : List ℕ) (e : Error) (h : Heard (wanted t) rest (outcome t b) (Stopped e)) where
-    went-stopped : WentBy t b (stopped (told e)) (b .log) (b .at)
+    went-stopped : WentBy t b (stopped (asRefusal e)) (b .log) (b .at)
     unfolding after
     went-stopped = record { went = h .said; bus = ap (λ (o : Outcome). after t o b) (h .said) }
 
     pub read-stopped : (buf : List ℕ) → ReadBy t b buf (record { reply = Stopped e; at = b .at }) buf (b .log)
-    read-stopped buf = record { moved = went-stopped; stored = ap (storedIn buf) (h .said); whole = λ k q. let z : _≡_ {A = ℕ} 0 1 = cc in absurd (omega arith) }
+    read-stopped buf = record {
+      moved = went-stopped;
+      stored = ap (storedIn buf) (h .said);
+      whole = λ k q. let z : _≡_ {A = ℕ} 0 1 = cc in absurd (omega arith);
+    }
 
     pub written-stopped : WrittenBy t b (record { reply = Stopped e; at = b .at }) (b .log)
     written-stopped = record { moved = went-stopped }
@@ -83,14 +91,16 @@ module _ (t : Transfer) (b : Bus) where
 
     -- tape and log after it
     bus-after : (g : Bool)
-        → busOf (b .tape) (put (b .log) used (logField t)) (record { tape = from + 3 + n; log = used + length (logField t) })
+        → busOf (b .tape) (put (b .log) used (logField t))
+        (record { tape = from + 3 + n; log = used + length (logField t) })
         ≡ after t (delivered g bytes) b
     unfolding after moved tapeField field
     bus-after true = rw (length-bytes, three)
     bus-after false = rw (length-bytes, three)
 
     -- ---- made: whatever holds the bytes delivered in front, with the field in the log
-    pub went-made : (held : List ℕ) → take n held ≡ bytes → (log : List ℕ) → log ≡ put (b .log) used (logField t) → (end : ℕ) → end ≡ used + length (logField t)
+    pub went-made : (held : List ℕ) → take n held ≡ bytes → (log : List ℕ) → log ≡ put (b .log) used (logField t)
+        → (end : ℕ) → end ≡ used + length (logField t)
         → WentBy t b (outcomeOf (Made f n) held) log (record { tape = from + 3 + n; log = end })
     went-made held e log l end u = record {
       went = ap (delivered f) e ∙ sym outcome-is;
@@ -113,7 +123,9 @@ module _ (t : Transfer) (b : Bus) where
         by-fault true i q = absurd (subst T q tt)
         by-fault false i q = let same : k ≡ n = cc in same ∙ i .0
 
-    pub read-by : (buf buf′ : List ℕ) → wanted t ≡ length buf → buf′ ≡ put buf 0 bytes → (log : List ℕ) → log ≡ put (b .log) used (logField t) → (end : ℕ) → end ≡ used + length (logField t)
+    pub read-by : (buf buf′ : List ℕ) → wanted t ≡ length buf → buf′ ≡ put buf 0 bytes
+        → (log : List ℕ) → log ≡ put (b .log) used (logField t)
+        → (end : ℕ) → end ≡ used + length (logField t)
         → ReadBy t b buf (record { reply = Made f n; at = record { tape = from + 3 + n; log = end } }) buf′ log
     read-by buf buf′ w e log l end u = record {
       moved = went-made buf′ (ap (take n) e ∙ front buf (omega (arith, w, at-most))) log l end u;
@@ -121,6 +133,7 @@ module _ (t : Transfer) (b : Bus) where
       whole = λ k q. exact (length buf) k w q;
     }
 
-    pub written-by : wanted t ≡ 0 → (log : List ℕ) → log ≡ put (b .log) used (logField t) → (end : ℕ) → end ≡ used + length (logField t)
+    pub written-by : wanted t ≡ 0 → (log : List ℕ) → log ≡ put (b .log) used (logField t)
+        → (end : ℕ) → end ≡ used + length (logField t)
         → WrittenBy t b (record { reply = Made f n; at = record { tape = from + 3 + n; log = end } }) log
     written-by w log l end u = record { moved = went-made [] (none w) log l end u }

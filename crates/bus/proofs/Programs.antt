@@ -1,5 +1,5 @@
--- What a program does on tape and log, step by step: one transfer and then the rest; one program and then the next; and of a `do`,
--- the rest after a call that gave a value, nothing after a call that refused.
+-- What a program does on tape and log, step by step: one transfer and then the rest; one program and then the next;
+-- and of a `do`, the rest after a call that gave a value, nothing after a call that refused.
 -- Assumes nothing.
 use mathlib.Core.Path.{_≡_, refl, ap, _∙_}
 use Rattle.refusals.specs.Refusal.{Refusal, Answer, value, refused}
@@ -33,7 +33,8 @@ module _ {A B : Type 0} (p : Prog (Answer A)) (leave : Refusal → B) (f : A →
   unfolding proceed
   went-on a q = went q
 
-  pub went-off : (r : Refusal) → y ≡ refused r → onTape ((p orLeave leave) >>= f) b ≡ record { answer = leave r; bus = b′ }
+  pub went-off : (r : Refusal) → y ≡ refused r
+      → onTape ((p orLeave leave) >>= f) b ≡ record { answer = leave r; bus = b′ }
   unfolding proceed onTape
   went-off r q = went q
 
@@ -43,6 +44,7 @@ module _ {A B : Type 0} (leave : Refusal → B) (f : A → Prog B) (b : Bus) (y 
   unfolding onTape
   pure-on a q = went-on (ret y) leave f b b y refl a q
 
-  pub pure-off : (r : Refusal) → y ≡ refused r → onTape ((ret y orLeave leave) >>= f) b ≡ record { answer = leave r; bus = b }
+  pub pure-off : (r : Refusal) → y ≡ refused r
+      → onTape ((ret y orLeave leave) >>= f) b ≡ record { answer = leave r; bus = b }
   unfolding onTape
   pure-off r q = went-off (ret y) leave f b b y refl r q

@@ -1,4 +1,5 @@
--- A read leaves as many bytes as it was lent, whatever tape and log hold: what the tape says to a transfer has the size that it asks for.
+-- A read leaves as many bytes as it was lent, whatever tape and log hold:
+-- what the tape says to a transfer has the size that it asks for.
 -- Assumes nothing.
 use mathlib.Core.Path.{_≡_, refl, sym, ap, _∙_}
 use mathlib.Core.Bool.{Bool, true, false, not, _&&_}
@@ -15,10 +16,12 @@ use Rattle.frames.specs.Put.{put}
 use Rattle.frames.proofs.Checked.{length-data}
 use Rattle.frames.proofs.Put.{length-put}
 use Rattle.bus.specs.Fields.{if_then_else_, Field, unfield}
-use Rattle.bus.specs.Transfers.{Transfer, read, Outcome, done, fault, stopped, logField, wanted, untape, says, Bus, answered, outcome}
+use Rattle.bus.specs.Transfers.{Transfer, read, Outcome, done, fault, stopped, Bus}
+use Rattle.bus.specs.Transfers.{logField, wanted, untape, says, answered, outcome}
 use Rattle.bus.specs.Programs.{Prog, ret, Ran, onTape}
-use Rattle.bus.specs.Raw.{Done, sound, Read, gives, refuses, plainly, received, whereRight, checkedly, plainRead, askFrame, checkedRead, readRaw, readBytes}
-use Rattle.bus.specs.declared.raw.Setup.{Setup}
+use Rattle.bus.specs.Raw.{Done, sound, refuses, Read, gives, plainly, received, whereRight, checkedly}
+use Rattle.bus.specs.Raw.{plainRead, askFrame, checkedRead, readRaw, readBytes}
+use Rattle.bus.specs.declared.raw.Link.{Link}
 use Rattle.bus.proofs.Programs.{onTape-bind}
 
 abbrev Sized : ℕ → Outcome → Type 0
@@ -37,7 +40,8 @@ sized-field : (n : ℕ) (f : Option Field) → Sized n (untape n f)
 unfolding untape
 sized-field n none = tt
 sized-field n (some f) =
-    by-tag n (f .value) (no 15 []) (eqb (f .tag) 0x01 && eqb (length (f .value)) n) (eqb (f .tag) 0x02 && leb (length (f .value)) n)
+    by-tag n (f .value) (no 15 [])
+    (eqb (f .tag) 0x01 && eqb (length (f .value)) n) (eqb (f .tag) 0x02 && leb (length (f .value)) n)
     (λ t. eqb→eq (length (f .value)) n (both-right (eqb (f .tag) 0x01) (eqb (length (f .value)) n) t))
     (λ t. leb→le (length (f .value)) n (both-right (eqb (f .tag) 0x02) (leb (length (f .value)) n) t))
 
@@ -52,7 +56,8 @@ sized-room n l false = tt
 
 sized : (t : Transfer) (b : Bus) → Sized (wanted t) (outcome t b)
 unfolding outcome answered
-sized t b = sized-room (wanted t) (drop (b .at .tape) (b .tape)) (leb (b .at .log + length (logField t)) (length (b .log)))
+sized t b =
+    sized-room (wanted t) (drop (b .at .tape) (b .tape)) (leb (b .at .log + length (logField t)) (length (b .log)))
 
 -- ---- the caller's bytes
 plain-size : (buf : List ℕ) (o : Outcome) → Sized (length buf) o → length (plainly buf o .bytes) ≡ length buf
@@ -66,19 +71,22 @@ where-right-size : (buf : List ℕ) (ok : Bool) (r : Read) → length (r .bytes)
 where-right-size buf true r h = h
 where-right-size buf false r h = refl
 
-check-size : (address : ℕ) (buf : List ℕ) (o : Outcome) → Sized (2 * length buf) o → length (checkedly address buf o .bytes) ≡ length buf
+check-size : (address : ℕ) (buf : List ℕ) (o : Outcome) → Sized (2 * length buf) o
+    → length (checkedly address buf o .bytes) ≡ length buf
 unfolding checkedly whereRight received
 check-size address buf (done bytes) h =
     let frame = put (replicate (2 * length buf) 0) 0 bytes in
     let zeros = length-replicate {A = ℕ} (2 * length buf) 0 in
-    let whole : length frame ≡ 2 * length buf = length-put (replicate (2 * length buf) 0) 0 bytes (omega arith) ∙ zeros in
+    let whole : length frame ≡ 2 * length buf =
+    length-put (replicate (2 * length buf) 0) 0 bytes (omega arith) ∙ zeros in
     where-right-size buf (right (readByte address ∷ []) frame) (gives (value tt) (put buf 0 (dataOf frame)))
     (length-put buf 0 (dataOf frame) (omega (arith, length-data frame)))
-check-size address buf (fault bytes) h = where-right-size buf (right (readByte address ∷ []) _) (gives (refuses 2) buf) refl
+check-size address buf (fault bytes) h =
+    where-right-size buf (right (readByte address ∷ []) _) (gives (refuses 2) buf) refl
 check-size address buf (stopped r) h = refl
 
 -- ---- the read
-module _ (s : Setup) (reg : ℕ) (buf : List ℕ) (b : Bus) where
+module _ (s : Link) (reg : ℕ) (buf : List ℕ) (b : Bus) where
   Same : Prog Read → Type 0
   Same p = length (onTape p b .answer .bytes) ≡ length buf
 
@@ -107,10 +115,12 @@ given-bytes : (a : Answer Done) (bs bytes : List ℕ) → answering a bs ≡ val
 given-bytes (value ok) bs bytes e = cc
 given-bytes (refused r) bs bytes e = absurd (let z : _≡_ {A = ℕ} 0 1 = cc in omega arith)
 
-pub bytes-size : (s : Setup) (reg n : ℕ) (b : Bus) (bytes : List ℕ) → onTape (readBytes s reg n) b .answer ≡ value bytes → length bytes ≡ n
+pub bytes-size : (s : Link) (reg n : ℕ) (b : Bus) (bytes : List ℕ)
+    → onTape (readBytes s reg n) b .answer ≡ value bytes → length bytes ≡ n
 unfolding readBytes onTape
 bytes-size s reg n b bytes e =
     let r = onTape (readRaw s reg (replicate n 0)) b in
     let whole = onTape-bind (readRaw s reg (replicate n 0)) (λ r. ret (answering (r .answer) (r .bytes))) b in
-    let same = given-bytes (r .answer .answer) (r .answer .bytes) bytes (sym (ap (λ (x : Ran (Answer (List ℕ))). x .answer) whole) ∙ e) in
+    let given = sym (ap (λ (x : Ran (Answer (List ℕ))). x .answer) whole) ∙ e in
+    let same = given-bytes (r .answer .answer) (r .answer .bytes) bytes given in
     sym (ap length same) ∙ read-size s reg (replicate n 0) b ∙ length-replicate n 0

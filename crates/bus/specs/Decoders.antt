@@ -1,4 +1,5 @@
--- The log read back: the transfer that a field stands for, and those of a whole log. (The tape's fields are read back by `unfield` and `untape`.)
+-- The log read back: the transfer that a field stands for, and those of a whole log.
+-- (The tape's fields are read back by `unfield` and `untape`.)
 -- Assumes nothing.
 use Prim.Native.Nat.{ℕ, zero, suc}
 use mathlib.Core.Bool.{_&&_}
@@ -6,7 +7,7 @@ use mathlib.Core.List.{List, [], _∷_}
 use mathlib.Core.Option.{Option, none, some, bind, Option·map}
 use lib.ListN.{length, drop, getD}
 use lib.Dec.{leb, eqb}
-use Rattle.signed.specs.Numbers.{word}
+use Rattle.numbers.specs.Numbers.{word}
 use Rattle.bus.specs.Fields.{if_then_else_, Field, unfield}
 use Rattle.bus.specs.Transfers.{Transfer, write, read}
 

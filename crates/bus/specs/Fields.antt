@@ -6,7 +6,7 @@ use mathlib.Core.List.{List, [], _∷_}
 use mathlib.Core.Option.{Option, none, some}
 use lib.ListN.{length, take, drop}
 use lib.Dec.{leb}
-use Rattle.signed.specs.Numbers.{word}
+use Rattle.numbers.specs.Numbers.{word}
 
 infixr 20 if_then_else_
 abbrev pub if_then_else_ : {A : Type 0} → Bool → A → A → A

@@ -1,6 +1,7 @@
 pub mod Fields
 pub mod Transfers
 pub mod Programs
+pub mod Lent
 pub mod Raw
 pub mod Decoders
 pub mod Replies

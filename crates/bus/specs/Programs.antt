@@ -1,4 +1,5 @@
--- A driver call as a program over transfers: it asks for transfers and goes on by what they answer. And what a program does on tape and log.
+-- A driver call as a program over transfers: it asks for transfers and goes on by what they answer.
+-- And what a program does on tape and log.
 -- Assumes nothing.
 use mathlib.Core.List.{List}
 use Prim.Native.Nat.{ℕ}

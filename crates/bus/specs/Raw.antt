@@ -6,19 +6,19 @@ use mathlib.Core.List.{List, [], _∷_}
 use lib.ListN.{length, replicate}
 use lib.IntN.{pos}
 use lib.Dec.{eqb, leb, ltb}
-use Rattle.refusals.specs.Refusal.{no, Answer, value, refused, answering, told}
+use Rattle.refusals.specs.Refusal.{no, Answer, value, refused, answering, asRefusal}
 use Rattle.wiring.specs.Sizes.{isSize}
 use Rattle.frames.specs.Frames.{readByte, right, dataOf, writeFrame}
 use Rattle.frames.specs.Put.{put}
 use Rattle.bus.specs.Fields.{if_then_else_}
 use Rattle.bus.specs.Transfers.{Transfer, read, write, Outcome, done, fault, stopped}
 use Rattle.bus.specs.Programs.{Prog, ret, ask, bind, _orLeave_, _>>=_}
-use Rattle.bus.specs.declared.raw.Setup.{Setup}
+use Rattle.bus.specs.declared.raw.Link.{Link}
 use Rattle.bus.specs.declared.raw.RawAnswer.{RawAnswer}
 use Rattle.bus.specs.declared.raw.RawAnswer.the-variants as R
 
 -- a 7-bit address, and a device's count of inputs
-abbrev pub sound : Setup → Bool
+abbrev pub sound : Link → Bool
 sound s = leb (s .address) 127 && isSize (s .x)
 
 -- a call that has nothing to hand back
@@ -27,7 +27,7 @@ Done = Unit {0}
 
 abbrev pub asRaw : RawAnswer → Answer Done
 asRaw R.Done = value tt
-asRaw (R.Refused e) = refused (told e)
+asRaw (R.Refused e) = refused (asRefusal e)
 
 -- ---- reading: the answer, and the caller's bytes then
 pub record Read : Type 0 where
@@ -61,7 +61,7 @@ checkedly address buf (done bytes) =
 checkedly address buf (fault bytes) = whereRight address buf (received (2 * length buf) bytes) (gives (refuses 2) buf)
 checkedly address buf (stopped r) = gives (refused r) buf
 
-unfoldable pub plainRead : Setup → ℕ → List ℕ → Prog Read
+unfoldable pub plainRead : Link → ℕ → List ℕ → Prog Read
 plainRead s reg buf =
     if ltb 256 (reg + length buf) then ret (gives (refuses 14) buf)
     else ask (read (s .address) reg (length buf)) λ o. ret (plainly buf o)
@@ -69,21 +69,21 @@ plainRead s reg buf =
 unfoldable pub askFrame : ℕ → ℕ → List ℕ → Prog Read
 askFrame address reg buf = ask (read address reg (2 * length buf)) λ o. ret (checkedly address buf o)
 
-unfoldable pub checkedRead : Setup → ℕ → List ℕ → Prog Read
+unfoldable pub checkedRead : Link → ℕ → List ℕ → Prog Read
 checkedRead s reg buf =
     if ltb (2 * s .x) (length buf) then ret (gives (refuses 3) buf)
     else if eqb (length buf) 0 then ret (gives (value tt) buf)
     else if ltb 256 (reg + length buf) then ret (gives (refuses 14) buf)
     else askFrame (s .address) reg buf
 
-unfoldable pub readRaw : Setup → ℕ → List ℕ → Prog Read
+unfoldable pub readRaw : Link → ℕ → List ℕ → Prog Read
 readRaw s reg buf =
     if not (sound s) then ret (gives (refuses 9) buf)
     else if s .check then checkedRead s reg buf
     else plainRead s reg buf
 
 -- a read of n bytes by a caller that wants them or a refusal
-unfoldable pub readBytes : Setup → ℕ → ℕ → Prog (Answer (List ℕ))
+unfoldable pub readBytes : Link → ℕ → ℕ → Prog (Answer (List ℕ))
 readBytes s reg n = bind (readRaw s reg (replicate n 0)) λ r. ret (answering (r .answer) (r .bytes))
 
 -- ---- writing
@@ -92,11 +92,11 @@ wrote (done bytes) = value tt
 wrote (fault bytes) = refuses 2
 wrote (stopped r) = refused r
 
-unfoldable pub askWrite : Setup → ℕ → List ℕ → Prog (Answer Done)
+unfoldable pub askWrite : Link → ℕ → List ℕ → Prog (Answer Done)
 askWrite s reg bytes = ask (write (s .address) (writeFrame (s .check) (s .address) reg bytes)) λ o. ret (wrote o)
 
 -- one write that is not read back
-unfoldable pub send : Setup → ℕ → List ℕ → Prog (Answer Done)
+unfoldable pub send : Link → ℕ → List ℕ → Prog (Answer Done)
 send s reg bytes =
     if not (sound s) then ret (refuses 9)
     else if ltb 8 (length bytes) then ret (refuses 3)
@@ -119,7 +119,7 @@ unfoldable pub askBack : ℕ → ℕ → List ℕ → Prog (Answer Done)
 askBack address reg bytes = ask (read address reg (length bytes)) λ o. ret (verified reg bytes o)
 
 -- without checks what was written is read back and compared
-unfoldable pub writeRaw : Setup → ℕ → List ℕ → Prog (Answer Done)
+unfoldable pub writeRaw : Link → ℕ → List ℕ → Prog (Answer Done)
 writeRaw s reg bytes = do
   _ ← send s reg bytes orLeave refused
   if s .check || eqb (length bytes) 0 then ret (value tt)

@@ -6,13 +6,13 @@ use Prim.Native.Nat.{ℕ, _+_, _≤_}
 use mathlib.Core.List.{List, []}
 use lib.ListN.{length, take, drop}
 use lib.Dec.{eqb, leb}
-use Rattle.refusals.specs.Refusal.{told, Answer, value, refused}
+use Rattle.refusals.specs.Refusal.{asRefusal, Answer, value, refused}
 use Rattle.refusals.specs.declared.Error.{Error}
 use Rattle.refusals.specs.declared.Error.the-variants as E
 use Rattle.frames.specs.Frames.{dataOf}
 use Rattle.frames.specs.Put.{put}
 use Rattle.bus.specs.Fields.{if_then_else_}
-use Rattle.bus.specs.Transfers.{Transfer, Outcome, done, fault, stopped, Bus, busOf, says, answered, outcome, after}
+use Rattle.bus.specs.Transfers.{Transfer, Outcome, done, fault, stopped, Bus, busOf, outcome, after}
 use Rattle.bus.specs.Raw.{Done, refuses, Read, gives, whereRight}
 use Rattle.bus.specs.declared.Cursor.{Cursor}
 use Rattle.bus.specs.declared.transfer.Moved.{Moved}
@@ -32,7 +32,7 @@ delivered true bytes = fault bytes
 -- a reply, with the bytes among which those delivered stand first
 abbrev pub outcomeOf : Reply → List ℕ → Outcome
 outcomeOf (Made faulted n) bytes = delivered faulted (take n bytes)
-outcomeOf (Stopped e) bytes = stopped (told e)
+outcomeOf (Stopped e) bytes = stopped (asRefusal e)
 
 -- as many bytes as are wanted, or at most those before a fault; and no more than stand there
 abbrev pub Within : ℕ → ℕ → Reply → Type 0
@@ -68,10 +68,10 @@ pub record WrittenBy (t : Transfer) (b : Bus) (m : Moved) (log′ : List ℕ) : 
 abbrev pub answerTo : Reply → Answer Done
 answerTo (Made false n) = value tt
 answerTo (Made true n) = refuses 2
-answerTo (Stopped e) = refused (told e)
+answerTo (Stopped e) = refused (asRefusal e)
 
 -- what a frame with check bytes gives, as it stands in the code's buffer after the transfer
 unfoldable pub taken : ℕ → List ℕ → List ℕ → Reply → Read
 taken address buf frame (Made false n) = whereRight address buf frame (gives (value tt) (put buf 0 (dataOf frame)))
 taken address buf frame (Made true n) = whereRight address buf frame (gives (refuses 2) buf)
-taken address buf frame (Stopped e) = gives (refused (told e)) buf
+taken address buf frame (Stopped e) = gives (refused (asRefusal e)) buf

@@ -3,9 +3,10 @@ ghost use mathlib.Core.Path.{_≡_};
 ghost use Prim.Native.Nat.{_+_, _*_, _≤_, _<_};
 ghost use mathlib.Core.Bool.{true, false};
 ghost use lib.ListN.{length, replicate};
-ghost use Rattle.bus.specs.Transfers.{busOf};
-ghost use Rattle.bus.specs.Programs.{onTape, ran};
-ghost use Rattle.bus.specs.Raw.{sound, asRaw, gives, plainRead, askFrame, checkedRead, readRaw, askWrite, send, compared, askBack, writeRaw};
+ghost use Rattle.refusals.specs.Refusal.{asRefusal, refusalIn};
+ghost use Rattle.bus.specs.Lent.{does};
+ghost use Rattle.bus.specs.Raw.{sound, asRaw, gives, plainRead, askFrame, checkedRead, readRaw};
+ghost use Rattle.bus.specs.Raw.{askWrite, send, compared, askBack, writeRaw};
 ghost use Rattle.bus.specs.Replies.{answerTo, taken};
 use crate::Cursor;
 use crate::transfer;
@@ -13,7 +14,7 @@ use crate::transfer::Reply;
 use refusals::Error;
 
 // How a chip is spoken to: its bus address, whether with check bytes, and its count of inputs.
-pub struct Setup {
+pub struct Link {
     pub address: u8,
     pub check: bool,
     pub x: u8,
@@ -29,7 +30,19 @@ pub struct Raw {
     pub at: Cursor,
 }
 
-impl Setup {
+impl RawAnswer {
+    // Asked where it refuses.
+    pub fn refusal(self) -> Error
+        ensures { λ r. ⌜ asRefusal r ≡ refusalIn (asRaw self) ⌝ }
+    {
+        match self {
+            RawAnswer::Done => Error::BadDevice,
+            RawAnswer::Refused(e) => e,
+        }
+    }
+}
+
+impl Link {
     pub fn is_sound(self) -> bool
         ensures { λ r. ⌜ r ≡ sound self ⌝ }
     {
@@ -81,11 +94,11 @@ fn compare(reg: u8, data: &[u8], back: &[u8]) -> RawAnswer
     RawAnswer::Done
 }
 
-impl Setup {
+impl Link {
     // Without checks: 14, then the transfer.
     fn plain_read(self, reg: u8, data: &mut [u8], tape: &[u8], log: &mut [u8], at: Cursor) -> Raw
-        ensures { λ r. ⌜ ran (gives (asRaw (r .answer)) (now («data» .exit))) (now (tape .entry)) (now (log .exit)) (r .at)
-            ≡ onTape (plainRead self reg (now («data» .entry))) (busOf (now (tape .entry)) (now (log .entry)) at) ⌝ }
+        ensures { λ r. ⌜ does (plainRead self reg (now («data» .entry))) tape log at
+            (gives (asRaw (r .answer)) (now («data» .exit))) (r .at) ⌝ }
     {
         let address = self.address;
         if 256 < reg as usize + data.len() {
@@ -103,8 +116,8 @@ impl Setup {
     // With checks: 3, empty, 14, then twice the bytes.
     fn checked_read(self, reg: u8, data: &mut [u8], tape: &[u8], log: &mut [u8], at: Cursor) -> Raw
         requires { ⌜ self .x ≤ 15 ⌝ }
-        ensures { λ r. ⌜ ran (gives (asRaw (r .answer)) (now («data» .exit))) (now (tape .entry)) (now (log .exit)) (r .at)
-            ≡ onTape (checkedRead self reg (now («data» .entry))) (busOf (now (tape .entry)) (now (log .entry)) at) ⌝ }
+        ensures { λ r. ⌜ does (checkedRead self reg (now («data» .entry))) tape log at
+            (gives (asRaw (r .answer)) (now («data» .exit))) (r .at) ⌝ }
     {
         let address = self.address;
         let n = data.len();
@@ -136,8 +149,8 @@ fn read_frame(
     at: Cursor,
 ) -> Raw
     requires { ⌜ now frame ≡ replicate (2 * length (now «data»)) 0 ⌝ }
-    ensures { λ r. ⌜ ran (gives (asRaw (r .answer)) (now («data» .exit))) (now (tape .entry)) (now (log .exit)) (r .at)
-        ≡ onTape (askFrame address reg (now («data» .entry))) (busOf (now (tape .entry)) (now (log .entry)) at) ⌝ }
+    ensures { λ r. ⌜ does (askFrame address reg (now («data» .entry))) tape log at
+        (gives (asRaw (r .answer)) (now («data» .exit))) (r .at) ⌝ }
 {
     let moved = transfer::transfer_read(address, reg, frame, tape, log, at);
     let reply = moved.reply;
@@ -151,7 +164,8 @@ fn read_frame(
 // What a frame with check bytes gives: 1 before a fault, and the data where all is right.
 fn take_frame(address: u8, frame: &[u8], reply: Reply, data: &mut [u8]) -> RawAnswer
     requires { ⌜ length (now frame) ≡ 2 * length (now «data») ⌝ }
-    ensures { λ r. ⌜ gives (asRaw r) (now («data» .exit)) ≡ taken address (now («data» .entry)) (now (frame .entry)) reply ⌝ }
+    ensures { λ r. ⌜ gives (asRaw r) (now («data» .exit))
+        ≡ taken address (now («data» .entry)) (now (frame .entry)) reply ⌝ }
 {
     let Reply::Made(fault, _) = reply else {
         return answer_of(reply);
@@ -166,7 +180,7 @@ fn take_frame(address: u8, frame: &[u8], reply: Reply, data: &mut [u8]) -> RawAn
     RawAnswer::Done
 }
 
-impl Setup {
+impl Link {
     pub fn read_raw(
         self,
         reg_address: u8,
@@ -175,8 +189,8 @@ impl Setup {
         log: &mut [u8],
         at: Cursor,
     ) -> Raw
-        ensures { λ r. ⌜ ran (gives (asRaw (r .answer)) (now («data» .exit))) (now (tape .entry)) (now (log .exit)) (r .at)
-            ≡ onTape (readRaw self «reg_address» (now («data» .entry))) (busOf (now (tape .entry)) (now (log .entry)) at) ⌝ }
+        ensures { λ r. ⌜ does (readRaw self «reg_address» (now («data» .entry))) tape log at
+            (gives (asRaw (r .answer)) (now («data» .exit))) (r .at) ⌝ }
     {
         if !self.is_sound() {
             return refuse(Error::BadDevice, at);
@@ -190,8 +204,8 @@ impl Setup {
 
     // One write that is not read back.
     pub fn send(self, reg_address: u8, data: &[u8], tape: &[u8], log: &mut [u8], at: Cursor) -> Raw
-        ensures { λ r. ⌜ ran (asRaw (r .answer)) (now (tape .entry)) (now (log .exit)) (r .at)
-            ≡ onTape (send self «reg_address» (now («data» .entry))) (busOf (now (tape .entry)) (now (log .entry)) at) ⌝ }
+        ensures { λ r. ⌜ does (send self «reg_address» (now («data» .entry))) tape log at
+            (asRaw (r .answer)) (r .at) ⌝ }
     {
         let n = data.len();
         if !self.is_sound() {
@@ -214,8 +228,7 @@ impl Setup {
 
     fn send_frame(self, reg: u8, data: &[u8], tape: &[u8], log: &mut [u8], at: Cursor) -> Raw
         requires { ⌜ length (now «data») ≤ 8 ⌝ }
-        ensures { λ r. ⌜ ran (asRaw (r .answer)) (now (tape .entry)) (now (log .exit)) (r .at)
-            ≡ onTape (askWrite self reg (now («data» .entry))) (busOf (now (tape .entry)) (now (log .entry)) at) ⌝ }
+        ensures { λ r. ⌜ does (askWrite self reg (now («data» .entry))) tape log at (asRaw (r .answer)) (r .at) ⌝ }
     {
         let address = self.address;
         let check = self.check;
@@ -239,8 +252,8 @@ impl Setup {
         log: &mut [u8],
         at: Cursor,
     ) -> Raw
-        ensures { λ r. ⌜ ran (asRaw (r .answer)) (now (tape .entry)) (now (log .exit)) (r .at)
-            ≡ onTape (writeRaw self «reg_address» (now («data» .entry))) (busOf (now (tape .entry)) (now (log .entry)) at) ⌝ }
+        ensures { λ r. ⌜ does (writeRaw self «reg_address» (now («data» .entry))) tape log at
+            (asRaw (r .answer)) (r .at) ⌝ }
     {
         let sent = self.send(reg_address, data, tape, log, at);
         let answer = sent.answer;
@@ -257,8 +270,8 @@ impl Setup {
     fn verify(self, reg: u8, data: &[u8], tape: &[u8], log: &mut [u8], at: Cursor) -> Raw
         requires { ⌜ length (now «data») ≤ 8 ⌝ }
         requires { ⌜ reg + length (now «data») ≤ 256 ⌝ }
-        ensures { λ r. ⌜ ran (asRaw (r .answer)) (now (tape .entry)) (now (log .exit)) (r .at)
-            ≡ onTape (askBack (self .address) reg (now («data» .entry))) (busOf (now (tape .entry)) (now (log .entry)) at) ⌝ }
+        ensures { λ r. ⌜ does (askBack (self .address) reg (now («data» .entry))) tape log at
+            (asRaw (r .answer)) (r .at) ⌝ }
     {
         let mut back = [0u8; 8];
         let n = data.len();
@@ -278,8 +291,7 @@ fn read_back(
 ) -> Raw
     requires { ⌜ length (now back) ≡ length (now «data») ⌝ }
     requires { ⌜ reg + length (now «data») ≤ 256 ⌝ }
-    ensures { λ r. ⌜ ran (asRaw (r .answer)) (now (tape .entry)) (now (log .exit)) (r .at)
-        ≡ onTape (askBack address reg (now («data» .entry))) (busOf (now (tape .entry)) (now (log .entry)) at) ⌝ }
+    ensures { λ r. ⌜ does (askBack address reg (now («data» .entry))) tape log at (asRaw (r .answer)) (r .at) ⌝ }
 {
     let moved = transfer::transfer_read(address, reg, back, tape, log, at);
     let reply = moved.reply;

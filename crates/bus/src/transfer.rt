@@ -6,7 +6,8 @@ ghost use lib.Dec.{leb};
 ghost use lib.ListN.{length, drop};
 ghost use Rattle.frames.specs.Put.{put};
 ghost use Rattle.bus.specs.Fields.{field};
-ghost use Rattle.bus.specs.Transfers.{read, write, says, answered, busOf};
+ghost use Rattle.bus.specs.Transfers.{read, write, says, answered};
+ghost use Rattle.bus.specs.Lent.{lentBus};
 ghost use Rattle.bus.specs.Replies.{judged, Heard, ReadBy, WrittenBy};
 use crate::Cursor;
 use refusals::Error;
@@ -50,7 +51,7 @@ fn hear(tape: &[u8], at: usize, want: usize) -> Reply
     if tape.len() - at < 3 {
         return Reply::Stopped(Error::BadTape);
     }
-    let len = signed::be_u16(tape[at + 1], tape[at + 2]) as usize;
+    let len = numbers::be_u16(tape[at + 1], tape[at + 2]) as usize;
     if tape.len() - at - 3 < len {
         return Reply::Stopped(Error::BadTape);
     }
@@ -71,7 +72,8 @@ fn has_room(size: usize, used: usize, need: usize) -> bool
 
 // 17 where a field of `need` bytes does not fit a log of `size`, then as the tape says.
 fn answer(tape: &[u8], size: usize, at: Cursor, want: usize, need: usize) -> Reply
-    ensures { λ r. ⌜ Heard want (drop (at .tape) (now (tape .entry))) (answered want need size (now (tape .entry)) at) r ⌝ }
+    ensures { λ r. ⌜ Heard want (drop (at .tape) (now (tape .entry)))
+        (answered want need size (now (tape .entry)) at) r ⌝ }
 {
     let from = at.tape;
     let used = at.log;
@@ -115,7 +117,8 @@ pub(crate) fn transfer_read(
     log: &mut [u8],
     at: Cursor,
 ) -> Moved
-    ensures { λ r. ⌜ ReadBy (read address reg (length (now (buf .entry)))) (busOf (now (tape .entry)) (now (log .entry)) at) (now (buf .entry)) r (now (buf .exit)) (now (log .exit)) ⌝ }
+    ensures { λ r. ⌜ ReadBy (read address reg (length (now (buf .entry)))) (lentBus tape log at)
+        (now (buf .entry)) r (now (buf .exit)) (now (log .exit)) ⌝ }
 {
     let from = at.tape;
     let used = at.log;
@@ -146,7 +149,7 @@ pub(crate) fn transfer_write(
     log: &mut [u8],
     at: Cursor,
 ) -> Moved
-    ensures { λ r. ⌜ WrittenBy (write address (now (bytes .entry))) (busOf (now (tape .entry)) (now (log .entry)) at) r (now (log .exit)) ⌝ }
+    ensures { λ r. ⌜ WrittenBy (write address (now (bytes .entry))) (lentBus tape log at) r (now (log .exit)) ⌝ }
 {
     let from = at.tape;
     let used = at.log;

@@ -4,9 +4,9 @@ use crate::lines;
 use crate::state::State;
 use bus::raw::RawAnswer;
 use job::ConfigAnswer;
-use settings::Config;
-use settings::InitAnswer;
-use settings::told::Five;
+use plan::Config;
+use plan::InitAnswer;
+use plan::answer::InitNumbers;
 
 pub(crate) fn init(value: &[u8], state: State, tape: &[u8], log: &mut [u8]) -> State {
     let parsed = job::parse_config(value);
@@ -25,19 +25,19 @@ fn init_by(config: Config, state: State, tape: &[u8], log: &mut [u8]) -> State {
     let next = done.at;
     lines::transfers(log, at, next);
     match answer {
-        InitAnswer::Ready(_) => ready(answer.figures()),
+        InitAnswer::Ready(_) => ready(answer.in_numbers()),
         InitAnswer::Refused(e) => lines::refused(e),
     }
     state.after(device, next)
 }
 
-fn ready(five: Five) {
+fn ready(numbers: InitNumbers) {
     text::ready(
-        five.0 as u64,
-        five.1 as u64,
-        five.2 as u64,
-        five.3 as u64,
-        five.4 as u64,
+        numbers.0 as u64,
+        numbers.1 as u64,
+        numbers.2 as u64,
+        numbers.3 as u64,
+        numbers.4 as u64,
     );
 }
 

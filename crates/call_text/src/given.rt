@@ -1,12 +1,15 @@
 // A job behind field 1E, which gives what `new` would not: 88 bytes, numbers high byte first. Initialised mark, gain, offset, shunt, the fifteen
 // cells, the log's size, the tape's and the log's position. X, count, address and check are those of field 20.
 ghost use mathlib.Core.Path.{_≡_};
-ghost use Prim.Native.Nat.{_≤_};
+ghost use Prim.Native.Nat.{_+_, _≤_};
 ghost use lib.ListN.{length};
 use crate::lines;
 use crate::state::State;
+use adc::transfer::AdcTransferFunction;
 use bq769x0::BQ769x0;
+use bq769x0::Readings;
 use bus::Cursor;
+use bus::raw::Link;
 use calls::HeadAnswer;
 use calls::Heading;
 use job::Device;
@@ -17,51 +20,46 @@ use units::MilliVolts;
 // Where the job begins.
 const JOB_AT: usize = 91;
 
-// The number that four bytes begin with; 0 where they are fewer.
-fn four(bytes: &[u8]) -> u32 {
-    if bytes.len() < 4 {
-        return 0;
-    }
-    let high = signed::be_u16(bytes[0], bytes[1]);
-    let low = signed::be_u16(bytes[2], bytes[3]);
-    high as u32 * 65536 + low as u32
+// The number in four bytes from `at` on.
+fn four(value: &[u8], at: usize) -> u32
+    requires { ⌜ at + 4 ≤ length (now value) ⌝ }
+{
+    numbers::be_u32(value[at], value[at + 1], value[at + 2], value[at + 3])
 }
 
-// The same of eight.
-fn eight(bytes: &[u8]) -> u64 {
-    if bytes.len() < 8 {
-        return 0;
-    }
-    four(bytes) as u64 * 4_294_967_296 + four(&bytes[4..]) as u64
+fn eight(value: &[u8], at: usize) -> usize
+    requires { ⌜ at + 8 ≤ length (now value) ⌝ }
+{
+    numbers::be_u64(four(value, at), four(value, at + 4)) as usize
 }
 
-fn cells_of(bytes: &[u8]) -> [MilliVolts; 15]
-    requires { ⌜ 60 ≤ length (now bytes) ⌝ }
+fn readings_of(value: &[u8]) -> Readings
+    requires { ⌜ length (now value) ≡ 88 ⌝ }
 {
     let mut cells = [MilliVolts(0); 15];
     let mut i = 0;
     while i < 15 {
-        let at = 4 * i;
-        cells[i] = MilliVolts(four(&bytes[at..]));
+        cells[i] = MilliVolts(four(value, 8 + 4 * i));
         i += 1;
     }
-    cells
+    Readings { cells }
 }
 
 fn device_of(asked: Device, value: &[u8]) -> BQ769x0
     requires { ⌜ length (now value) ≡ 88 ⌝ }
 {
-    BQ769x0 {
-        x: asked.x,
-        dev_address: asked.address,
+    let link = Link {
+        address: asked.address,
         check: asked.check,
-        init_complete: value[0] == 1,
-        adc_gain: signed::be_u16(value[1], value[2]),
-        adc_offset: signed::as_i8(value[3]),
-        shunt: MicroOhms(four(&value[4..])),
-        cell_count: asked.cells,
-        cells: cells_of(&value[8..]),
-    }
+        x: asked.x,
+    };
+    let adc = AdcTransferFunction {
+        gain: numbers::be_u16(value[1], value[2]),
+        offset: numbers::as_i8(value[3]),
+    };
+    let shunt = MicroOhms(four(value, 4));
+    let device = BQ769x0::of_parts(link, asked.cells, adc, shunt, value[0] == 1);
+    device.store_readings(readings_of(value))
 }
 
 fn state_of(asked: Device, value: &[u8]) -> State
@@ -69,8 +67,8 @@ fn state_of(asked: Device, value: &[u8]) -> State
 {
     let device = device_of(asked, value);
     let at = Cursor {
-        tape: eight(&value[72..]) as usize,
-        log: eight(&value[80..]) as usize,
+        tape: eight(value, 72),
+        log: eight(value, 80),
     };
     State {
         device,
@@ -83,7 +81,7 @@ fn state_of(asked: Device, value: &[u8]) -> State
 fn is_given(input: &[u8]) -> bool
     requires { ⌜ 91 ≤ length (now input) ⌝ }
 {
-    let len = signed::be_u16(input[1], input[2]);
+    let len = numbers::be_u16(input[1], input[2]);
     (input[0] == 0x1E) & (len == 88) & (input[3] < 2)
 }
 
@@ -111,7 +109,7 @@ fn run(value: &[u8], job: &[u8], heading: Heading)
 {
     let asked = heading.device;
     let tape_at = heading.tape_at;
-    let size = four(&value[68..]) as usize;
+    let size = four(value, 68) as usize;
     if 65536 < size {
         lines::refused(Error::BadTape);
         return;
@@ -123,6 +121,6 @@ fn run(value: &[u8], job: &[u8], heading: Heading)
 
 // The calls, and the log they leave.
 fn with_log(job: &[u8], tape_at: usize, state: State, log: &mut [u8]) {
-    crate::over(job, tape_at, state, log);
+    crate::print_calls(job, tape_at, state, log);
     lines::bytes(b"log", log);
 }

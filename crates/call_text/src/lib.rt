@@ -44,11 +44,11 @@ fn run(input: &[u8], tape_at: usize, device: BQ769x0) {
         lists: false,
     };
     let mut log = [0u8; 65536];
-    over(input, tape_at, state, &mut log);
+    print_calls(input, tape_at, state, &mut log);
 }
 
 // The calls on a record, a log and a cursor, and what they leave.
-fn over(input: &[u8], tape_at: usize, state: State, log: &mut [u8]) {
+fn print_calls(input: &[u8], tape_at: usize, state: State, log: &mut [u8]) {
     if input.len() < tape_at {
         return;
     }

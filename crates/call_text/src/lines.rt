@@ -10,8 +10,13 @@ pub(crate) fn transfers(log: &[u8], at: Cursor, next: Cursor) {
 }
 
 pub(crate) fn refused(e: Error) {
-    let told = e.told();
-    text::refused(told.0, told.1 as u64, told.2 as u64, told.3 as u64);
+    let numbers = e.in_numbers();
+    text::refused(
+        numbers.0,
+        numbers.1 as u64,
+        numbers.2 as u64,
+        numbers.3 as u64,
+    );
 }
 
 pub(crate) fn number(name: &[u8], n: u64) {

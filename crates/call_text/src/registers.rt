@@ -100,7 +100,7 @@ pub(crate) fn read_raw(
     if value.len() != 3 {
         return at;
     }
-    let n = signed::be_u16(value[1], value[2]) as usize;
+    let n = numbers::be_u16(value[1], value[2]) as usize;
     if 512 < n {
         return at;
     }

@@ -38,16 +38,17 @@ impl State {
     pub(crate) fn print(self) {
         let device = self.device;
         let at = self.at;
+        let link = device.link;
         text::words(b"record");
-        text::number(device.x as u64);
+        text::number(link.x as u64);
         text::number(device.cell_count as u64);
-        text::number(device.dev_address as u64);
-        text::number(bit(device.check));
-        text::number(device.adc_gain as u64);
-        text::signed_number(wide(device.adc_offset));
-        text::number(bit(device.init_complete));
+        text::number(link.address as u64);
+        text::number(bit(link.check));
+        text::number(device.adc_gain() as u64);
+        text::signed_number(wide(device.adc_offset()));
+        text::number(bit(device.is_initialized()));
         text::number(device.shunt.0 as u64);
-        let held = device.cells;
+        let held = device.readings.cells;
         cells(held);
         text::words(b" tape");
         text::number(at.tape as u64);

@@ -1,6 +1,6 @@
--- What is accepted is just what begins with a head written out: a device, any lawful calls, 3F 0000. A head written out is read back, whatever
--- tape follows, and the tape is what comes after it; and bytes, each below 256, that are accepted are their device and some lawful calls written
--- out, and then the tape.
+-- What is accepted is just what begins with a head written out: a device, any lawful calls, 3F 0000. A head written out is
+-- read back, whatever tape follows, and the tape is what comes after it; and bytes, each below 256, that are accepted are
+-- their device and some lawful calls written out, and then the tape.
 -- Assumes nothing.
 use mathlib.Core.Path.{_≡_, refl, sym, ap, subst, _∙_}
 use mathlib.Core.Bool.{Bool, true, false, cond, and-eq-true-iff}
@@ -12,7 +12,7 @@ use lib.Seq.{take-at, drop-at, drop-drop, getD-drop, length-take-le}
 use lib.Dec.{T}
 use borrow.Author.Tests.{le-leb, leb-true, eqb-true, ne-eqb}
 use Rattle.refusals.specs.Refusal.{Answer, value, refused, no}
-use Rattle.settings.proofs.Values.{refused-not, same-value}
+use Rattle.plan.proofs.Values.{refused-not, same-value}
 use Rattle.job.specs.Jobs.{byteAt, deviceFor}
 use Rattle.job.specs.Encoding.{deviceValue, field}
 use Rattle.job.specs.declared.Device.{Device}
@@ -65,23 +65,37 @@ end-read : (tape : List ℕ) → isEnd (field 0x3F [] ++ tape) ≡ true
 unfolding isEnd
 end-read tape = rw (whole-read 0x3F [] tape)
 
+-- a call and what follows it
+module _ (c : Call) (rest : List ℕ) (fields at : ℕ) where
+  abbrev next : ℕ
+  next = at + (3 + lengthOf (field (c .tag) (c .bytes) ++ rest))
+
+  next-is : next ≡ at + length (field (c .tag) (c .bytes))
+  next-is = omega (arith, length-read (c .tag) (c .bytes) rest)
+
+  past-call : 0 < fields → lawful (c .tag) (c .bytes) ≡ true
+      → endFrom fields at (field (c .tag) (c .bytes) ++ rest) ≡ endFrom (fields - 1) next rest
+  past-call more l =
+      calls at (field (c .tag) (c .bytes) ++ rest) fields more
+      (no-end (c .tag) (c .bytes) rest l) (call-read (c .tag) (c .bytes) rest l)
+      ∙ ap (endFrom (fields - 1) next) (rest-read (c .tag) (c .bytes) rest)
+
 pub calls-read : (cs : List Call) (tape : List ℕ) (fields at : ℕ) → length (callFields cs) < fields → Lawful cs
-    → endFrom fields at (callFields cs ++ (field 0x3F [] ++ tape)) ≡ value (record { tag = 0x3F; start = at + length (callFields cs) + 3; len = 0 })
+    → endFrom fields at (callFields cs ++ (field 0x3F [] ++ tape))
+    ≡ value (record { tag = 0x3F; start = at + length (callFields cs) + 3; len = 0 })
 unfolding callFields
 calls-read [] tape fields at h l =
     let start : at + 3 ≡ at + 0 + 3 = omega arith in
     ends at (field 0x3F [] ++ tape) fields h (end-read tape) ∙ rw start
 calls-read (c ∷ cs) tape fields at h l =
     let rest = callFields cs ++ (field 0x3F [] ++ tape) in
-    let parts : length (c .bytes ++ callFields cs) ≡ length (c .bytes) + length (callFields cs) = length-append (c .bytes) (callFields cs) in
-    let more : 0 < fields = omega arith in
-    let less : length (callFields cs) < fields - 1 = omega arith in
-    let start : at + (3 + lengthOf (field (c .tag) (c .bytes) ++ rest)) + length (callFields cs) + 3 ≡ at + length (field (c .tag) (c .bytes) ++ callFields cs) + 3 =
-    omega (arith, length-read (c .tag) (c .bytes) rest) in
-    ap (λ (b : List ℕ). endFrom fields at (c .tag ∷ length (c .bytes) / 256 ∷ length (c .bytes) % 256 ∷ b)) (append-assoc (c .bytes) (callFields cs) (field 0x3F [] ++ tape))
-    ∙ calls at (field (c .tag) (c .bytes) ++ rest) fields more (no-end (c .tag) (c .bytes) rest (l .0)) (call-read (c .tag) (c .bytes) rest (l .0))
-    ∙ ap (endFrom (fields - 1) (at + (3 + lengthOf (field (c .tag) (c .bytes) ++ rest)))) (rest-read (c .tag) (c .bytes) rest)
-    ∙ calls-read cs tape (fields - 1) (at + (3 + lengthOf (field (c .tag) (c .bytes) ++ rest))) less (l .1)
+    let parts = length-append (c .bytes) (callFields cs) in
+    let start : next c rest fields at + length (callFields cs) + 3
+    ≡ at + length (field (c .tag) (c .bytes) ++ callFields cs) + 3 =
+    omega (arith, parts, next-is c rest fields at) in
+    ap (endFrom fields at) (append-assoc (field (c .tag) (c .bytes)) (callFields cs) (field 0x3F [] ++ tape))
+    ∙ past-call c rest fields at (omega (arith, parts)) (l .0)
+    ∙ calls-read cs tape (fields - 1) (next c rest fields at) (omega (arith, parts)) (l .1)
     ∙ ap (λ (n : ℕ). value (record { tag = 0x3F; start = n; len = 0 })) start
 
 module _ (d : Device) (cs : List Call) (tape : List ℕ) where
@@ -99,7 +113,8 @@ module _ (d : Device) (cs : List Call) (tape : List ℕ) where
   after-length : length (field 0x20 (deviceValue d) ++ after) ≡ 7 + (length (callFields cs) + (3 + length tape))
   after-length = omega (arith, length-append (callFields cs) (field 0x3F [] ++ tape))
 
-  pub head-read : Lawful cs → headOf (headBytes d cs ++ tape) ≡ value (record { device = d; «tape_at» = length (headBytes d cs) })
+  pub head-read : Lawful cs
+      → headOf (headBytes d cs ++ tape) ≡ value (record { device = d; «tape_at» = length (headBytes d cs) })
   head-read l =
       rw (all-is, head-length)
       (both-read (field 0x20 (deviceValue d) ++ after) d _ (device-alone d after)
@@ -114,7 +129,14 @@ module _ (bytes : List ℕ) (small : (i : ℕ) → byteAt bytes i < 256) where
       let long : 3 + lengthOf bytes ≤ length bytes = leb-true _ _ e in
       length-take-le (lengthOf bytes) (drop 3 bytes) (omega (arith, length-drop 3 bytes))
 
-  field-written : isWhole bytes ≡ true → bytes ≡ field (byteAt bytes 0) (valueOf bytes) ++ drop (3 + lengthOf bytes) bytes
+  -- its value and what follows it
+  parted : drop 3 bytes ≡ valueOf bytes ++ drop (3 + lengthOf bytes) bytes
+  parted =
+      sym (take-append-drop (lengthOf bytes) (drop 3 bytes))
+      ∙ ap (λ (l : List ℕ). valueOf bytes ++ l) (drop-drop (lengthOf bytes) 3 bytes)
+
+  field-written : isWhole bytes ≡ true
+      → bytes ≡ field (byteAt bytes 0) (valueOf bytes) ++ drop (3 + lengthOf bytes) bytes
   unfolding isWhole
   field-written e =
       let long : 3 + lengthOf bytes ≤ length bytes = leb-true _ _ e in
@@ -123,9 +145,8 @@ module _ (bytes : List ℕ) (small : (i : ℕ) → byteAt bytes i < 256) where
       let high : length (valueOf bytes) / 256 ≡ byteAt bytes 1 = omega (arith, small 2) in
       let low : length (valueOf bytes) % 256 ≡ byteAt bytes 2 = omega (arith, small 2) in
       from-drop bytes 0 3 three
-      ∙ ap (λ (l : List ℕ). byteAt bytes 0 ∷ byteAt bytes 1 ∷ byteAt bytes 2 ∷ l) (sym (take-append-drop (lengthOf bytes) (drop 3 bytes)) ∙ ap (λ (l : List ℕ). valueOf bytes ++ l) (drop-drop (lengthOf bytes) 3 bytes))
-      ∙ ap (λ (n : ℕ). byteAt bytes 0 ∷ n ∷ byteAt bytes 2 ∷ (valueOf bytes ++ drop (3 + lengthOf bytes) bytes)) (sym high)
-      ∙ ap (λ (n : ℕ). byteAt bytes 0 ∷ length (valueOf bytes) / 256 ∷ n ∷ (valueOf bytes ++ drop (3 + lengthOf bytes) bytes)) (sym low)
+      ∙ ap (λ (l : List ℕ). byteAt bytes 0 ∷ byteAt bytes 1 ∷ byteAt bytes 2 ∷ l) parted
+      ∙ rw (high, low)
 
 -- the calls that bytes begin with, and what follows 3F 0000
 pub record Calls (at : ℕ) (bytes : List ℕ) (end : Field) : Type 0 where
@@ -179,7 +200,9 @@ module _ (at : ℕ) (bytes : List ℕ) (small : (i : ℕ) → byteAt bytes i < 2
   by-tests next later false he true hc q = called hc (later q)
   by-tests next later false he false hc q = refused-not q
 
-pub calls-written : (fields at : ℕ) (bytes : List ℕ) → ((i : ℕ) → byteAt bytes i < 256) → (end : Field) → endFrom fields at bytes ≡ value end → Calls at bytes end
+pub calls-written : (fields at : ℕ) (bytes : List ℕ) → ((i : ℕ) → byteAt bytes i < 256) → (end : Field)
+    → endFrom fields at bytes ≡ value end
+    → Calls at bytes end
 unfolding endFrom
 calls-written zero at bytes small end q = refused-not q
 calls-written (suc n) at bytes small end q =
@@ -194,8 +217,11 @@ pub record Written (bytes : List ℕ) (h : Heading) : Type 0 where
   pub written : bytes ≡ headBytes (h .device) cs ++ drop (h .«tape_at») bytes
 
 module _ (bytes : List ℕ) (small : (i : ℕ) → byteAt bytes i < 256) where
-  head-by : (h : Heading) (d : Answer Device) (f : Answer Field) → deviceFor bytes ≡ d → endFrom (length bytes) 7 (drop 7 bytes) ≡ f
-      → headed d f ≡ value h → Written bytes h
+  head-by : (h : Heading) (d : Answer Device) (f : Answer Field)
+      → deviceFor bytes ≡ d
+      → endFrom (length bytes) 7 (drop 7 bytes) ≡ f
+      → headed d f ≡ value h
+      → Written bytes h
   head-by h (value d) (value f) hd hf q =
       let later = calls-written (length bytes) 7 (drop 7 bytes) (λ i. rw (getD-drop 7 bytes i 0) (small (7 + i))) f hf in
       let all : bytes ≡ headBytes d (later .cs) ++ later .tape =

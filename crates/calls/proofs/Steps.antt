@@ -10,9 +10,9 @@ use lib.ListN.{length, take, drop, length-drop, drop-of-length-le}
 use lib.Seq.{getD-drop, drop-drop}
 use lib.Dec.{eqb}
 use borrow.Author.Tests.{le-leb, lt-leb, leb-true}
-use Rattle.signed.specs.Numbers.{word}
+use Rattle.numbers.specs.Numbers.{word}
 use Rattle.refusals.specs.Refusal.{Answer, Refusal, value, refused, no}
-use Rattle.settings.proofs.Values.{refused-not, same-value}
+use Rattle.plan.proofs.Values.{refused-not, same-value}
 use Rattle.job.specs.Jobs.{byteAt, isDevice, deviceOf, deviceFor}
 use Rattle.job.specs.declared.Device.{Device}
 use Rattle.calls.specs.Shapes.{lawful}
@@ -33,7 +33,8 @@ module _ (at : ℕ) (input : List ℕ) where
       let k : length (drop at input) < 3 + lengthOf (drop at input) = omega (arith, length-drop at input, said-is) in
       rw (lt-leb _ _ k)
 
-  pub whole : at + 3 + said ≤ length input → fieldAt at (drop at input) ≡ value (record { tag = byteAt input at; start = at + 3; len = said })
+  pub whole : at + 3 + said ≤ length input
+      → fieldAt at (drop at input) ≡ value (record { tag = byteAt input at; start = at + 3; len = said })
   unfolding fieldAt isWhole
   whole h =
       let k : 3 + lengthOf (drop at input) ≤ length (drop at input) = omega (arith, length-drop at input, said-is) in
@@ -41,7 +42,8 @@ module _ (at : ℕ) (input : List ℕ) where
 
 -- ---- what an answer tells
 module _ (at : ℕ) (bytes : List ℕ) where
-  found-if : (b : Bool) (f : Field) → cond b (value (fieldOf at bytes)) (refused (no 15 [])) ≡ value f → (b ≡ true) × (fieldOf at bytes ≡ f)
+  found-if : (b : Bool) (f : Field) → cond b (value (fieldOf at bytes)) (refused (no 15 [])) ≡ value f
+      → (b ≡ true) × (fieldOf at bytes ≡ f)
   found-if true f e = (refl, same-value e)
   found-if false f e = refused-not e
 
@@ -76,12 +78,14 @@ module _ (at : ℕ) (bytes : List ℕ) where
       let less : suc n - 1 ≡ n = omega arith in
       rw (less, e, c)
 
-  pub neither : (fields : ℕ) → 0 < fields → isEnd bytes ≡ false → isCall bytes ≡ false → endFrom fields at bytes ≡ refused (no 15 [])
+  pub neither : (fields : ℕ) → 0 < fields → isEnd bytes ≡ false → isCall bytes ≡ false
+      → endFrom fields at bytes ≡ refused (no 15 [])
   unfolding endFrom
   neither zero h e c = absurd (omega arith)
   neither (suc n) h e c = rw (e, c)
 
-pub past-the-end : (fields at : ℕ) (input : List ℕ) → length input ≤ at → endFrom fields at (drop at input) ≡ refused (no 15 [])
+pub past-the-end : (fields at : ℕ) (input : List ℕ) → length input ≤ at
+    → endFrom fields at (drop at input) ≡ refused (no 15 [])
 unfolding isWhole
 past-the-end fields at input h = none at (drop at input) fields (rw (drop-of-length-le input h))
 
@@ -95,14 +99,18 @@ only-by true c f next only r e = refused-not (sym e)
 only-by false true f next only r e = only r e
 only-by false false f next only r e = refl
 
-only-15 : (fields at : ℕ) (bytes : List ℕ) (r : Refusal) → endFrom fields at bytes ≡ refused r → endFrom fields at bytes ≡ refused (no 15 [])
+only-15 : (fields at : ℕ) (bytes : List ℕ) (r : Refusal) → endFrom fields at bytes ≡ refused r
+    → endFrom fields at bytes ≡ refused (no 15 [])
 unfolding endFrom
 only-15 zero at bytes r e = refl
 only-15 (suc n) at bytes r e =
-    only-by (isEnd bytes) (isCall bytes) (fieldOf at bytes) (endFrom n (at + (3 + lengthOf bytes)) (drop (3 + lengthOf bytes) bytes))
-    (only-15 n (at + (3 + lengthOf bytes)) (drop (3 + lengthOf bytes) bytes)) r e
+    let k = 3 + lengthOf bytes in
+    only-by (isEnd bytes) (isCall bytes) (fieldOf at bytes) (endFrom n (at + k) (drop k bytes))
+    (only-15 n (at + k) (drop k bytes)) r e
 
-device-only-by : (b : Bool) (d : Device) (r : Refusal) → cond b (value d) (refused (no 15 [])) ≡ refused r → cond b (value d) (refused (no 15 [])) ≡ refused (no 15 [])
+device-only-by : (b : Bool) (d : Device) (r : Refusal)
+    → cond b (value d) (refused (no 15 [])) ≡ refused r
+    → cond b (value d) (refused (no 15 [])) ≡ refused (no 15 [])
 device-only-by true d r e = refused-not (sym e)
 device-only-by false d r e = refl
 
@@ -110,11 +118,16 @@ pub no-device : (bytes : List ℕ) (r : Refusal) → deviceFor bytes ≡ refused
 unfolding headOf deviceFor
 no-device bytes r e = rw (device-only-by (isDevice bytes) (deviceOf bytes) r e)
 
-pub no-end : (bytes : List ℕ) (d : Device) (r : Refusal) → deviceFor bytes ≡ value d → endFrom (length bytes) 7 (drop 7 bytes) ≡ refused r → headOf bytes ≡ refused (no 15 [])
+pub no-end : (bytes : List ℕ) (d : Device) (r : Refusal)
+    → deviceFor bytes ≡ value d
+    → endFrom (length bytes) 7 (drop 7 bytes) ≡ refused r
+    → headOf bytes ≡ refused (no 15 [])
 unfolding headOf
 no-end bytes d r e q = rw (e, only-15 (length bytes) 7 (drop 7 bytes) r q)
 
-pub both-read : (bytes : List ℕ) (d : Device) (f : Field) → deviceFor bytes ≡ value d → endFrom (length bytes) 7 (drop 7 bytes) ≡ value f
+pub both-read : (bytes : List ℕ) (d : Device) (f : Field)
+    → deviceFor bytes ≡ value d
+    → endFrom (length bytes) 7 (drop 7 bytes) ≡ value f
     → headOf bytes ≡ value (record { device = d; «tape_at» = f .start })
 unfolding headOf
 both-read bytes d f e q = rw (e, q)
@@ -135,7 +148,9 @@ module _ (input : List ℕ) (at : ℕ) (f : Field) (given : fieldAt at (drop at 
 
   pub inside : f .start + f .len ≤ length input
   unfolding isWhole
-  inside = omega (arith, leb-true (3 + lengthOf (drop at input)) (length (drop at input)) is-whole, length-drop at input, starts, long)
+  inside =
+      let fit = leb-true (3 + lengthOf (drop at input)) (length (drop at input)) is-whole in
+      omega (arith, fit, length-drop at input, starts, long)
 
   -- the field's value, as the code lends it
   abbrev lent : List ℕ
@@ -152,9 +167,14 @@ module _ (input : List ℕ) (at : ℕ) (f : Field) (given : fieldAt at (drop at 
 
   call-is : (b : Bool) → lawful (f .tag) lent ≡ b → isCall (drop at input) ≡ b
   unfolding isCall
-  call-is b e = rw (is-whole) (ap (λ (g : Field). lawful (g .tag) (valueOf (drop at input))) is-field ∙ sym (ap (lawful (f .tag)) value-is) ∙ e)
+  call-is b e =
+      rw (is-whole)
+      (ap (λ (g : Field). lawful (g .tag) (valueOf (drop at input))) is-field
+      ∙ sym (ap (lawful (f .tag)) value-is)
+      ∙ e)
 
-  pub found-end : (fields : ℕ) → 0 < fields → eqb (f .tag) 0x3F && eqb (f .len) 0 ≡ true → endFrom fields at (drop at input) ≡ value f
+  pub found-end : (fields : ℕ) → 0 < fields → eqb (f .tag) 0x3F && eqb (f .len) 0 ≡ true
+      → endFrom fields at (drop at input) ≡ value f
   found-end fields h e = ends at (drop at input) fields h (end-is true e) ∙ ap (λ (g : Field). value g) is-field
 
   pub found-call : (fields : ℕ) → 0 < fields → eqb (f .tag) 0x3F && eqb (f .len) 0 ≡ false

@@ -5,8 +5,8 @@ use mathlib.Core.Bool.{Bool, cond, _&&_}
 use mathlib.Core.List.{List, []}
 use lib.ListN.{length, take, drop}
 use lib.Dec.{eqb, leb}
-use Rattle.signed.specs.Numbers.{word}
-use Rattle.refusals.specs.Refusal.{Answer, value, refused, no, told}
+use Rattle.numbers.specs.Numbers.{word}
+use Rattle.refusals.specs.Refusal.{Answer, value, refused, no, asRefusal}
 use Rattle.job.specs.Jobs.{byteAt, deviceFor}
 use Rattle.job.specs.declared.Device.{Device}
 use Rattle.calls.specs.Shapes.{lawful}
@@ -36,7 +36,7 @@ fieldAt at bytes = cond (isWhole bytes) (value (fieldOf at bytes)) (refused (no 
 
 abbrev pub asField : FieldAnswer → Answer Field
 asField (F.Found field) = value field
-asField (F.Refused e) = refused (told e)
+asField (F.Refused e) = refused (asRefusal e)
 
 unfoldable pub isEnd : List ℕ → Bool
 isEnd bytes = isWhole bytes && eqb (byteAt bytes 0) 0x3F && eqb (lengthOf bytes) 0
@@ -62,4 +62,4 @@ headOf bytes = headed (deviceFor bytes) (endFrom (length bytes) 7 (drop 7 bytes)
 
 abbrev pub asHead : HeadAnswer → Answer Heading
 asHead (H.Wanted heading) = value heading
-asHead (H.Refused e) = refused (told e)
+asHead (H.Refused e) = refused (asRefusal e)

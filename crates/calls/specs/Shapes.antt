@@ -5,7 +5,7 @@ use mathlib.Core.Bool.{Bool, false, cond, _&&_}
 use mathlib.Core.List.{List, [], _∷_}
 use lib.ListN.{length}
 use lib.Dec.{eqb, leb, ltb}
-use Rattle.signed.specs.Numbers.{word}
+use Rattle.numbers.specs.Numbers.{word}
 use Rattle.job.specs.Jobs.{byteAt, isConfig}
 use Rattle.calls.specs.declared.Shape.{Shape}
 use Rattle.calls.specs.declared.Shape.the-variants as S

@@ -98,7 +98,7 @@ fn is_read(value: &[u8]) -> bool
     if value.len() != 3 {
         return false;
     }
-    signed::be_u16(value[1], value[2]) <= 512
+    numbers::be_u16(value[1], value[2]) <= 512
 }
 
 fn fits(shape: Shape, value: &[u8]) -> bool
@@ -132,7 +132,7 @@ pub fn field_at(input: &[u8], at: usize) -> FieldAnswer
     if input.len() - at < 3 {
         return FieldAnswer::Refused(Error::BadTape);
     }
-    let len = signed::be_u16(input[at + 1], input[at + 2]) as usize;
+    let len = numbers::be_u16(input[at + 1], input[at + 2]) as usize;
     if input.len() - at - 3 < len {
         return FieldAnswer::Refused(Error::BadTape);
     }

@@ -1,9 +1,10 @@
--- Laws of the long division: it goes through an exclusive or, it takes no account of zeros before the number, to divide on is to divide what
--- is left, a multiple of the divisor is taken away, and what is left is below x^8.
+-- Laws of the long division: it goes through an exclusive or, it takes no account of zeros before the number, to divide on is
+-- to divide what is left, a multiple of the divisor is taken away, and what is left is below x^8.
 -- Assumes nothing.
 use mathlib.Core.Path.{_≡_, refl, sym, ap, ap₂, _∙_, subst}
 use Prim.Native.Nat.{ℕ, zero, suc, _+_, _*_, _/_, _%_, _^_, _<_}
-use native.Mathlib.Nat.{zero-lt-suc, zero-add, add-zero, suc-add, zero-mul, one-mul, mul-one, mul-assoc, mul-mod-left, pow-suc, mod-lt, mod-eq-of-lt, div-eq-of-lt, div-lt-iff-lt-mul, lt-of-lt-of-le}
+use native.Mathlib.Nat.{zero-lt-suc, zero-add, add-zero, suc-add, zero-mul, one-mul, mul-one, mul-assoc, pow-suc}
+use native.Mathlib.Nat.{mul-mod-left, mod-lt, mod-eq-of-lt, div-eq-of-lt, div-lt-iff-lt-mul, lt-of-lt-of-le}
 use native.Mathlib.Omega.{arith}
 use native.Mathlib.Numerals.{one-add}
 use lib.Pow.{pow-pos, pow-add, pow-mono, shl-shr, shr-lt, shr-shr}

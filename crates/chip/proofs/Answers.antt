@@ -32,7 +32,9 @@ module _ (c : Chip) (r : ℕ) where
 
   pub read-within : (a n : ℕ) → answers c (read a r n) ≡ true → r + begun (c .check) n ≤ 256
   unfolding answers
-  read-within a n h = leb-true (r + begun (c .check) n) 256 (and-eq-true-iff (eqb a (c .address)) (leb (r + begun (c .check) n) 256) .0 h .1)
+  read-within a n h =
+      leb-true (r + begun (c .check) n) 256
+      (and-eq-true-iff (eqb a (c .address)) (leb (r + begun (c .check) n) 256) .0 h .1)
 
   pub write-within : (bytes : List ℕ) → answers c (write (c .address) (r ∷ bytes)) ≡ true → r + begun (c .check) (length bytes) ≤ 256
   write-within bytes h = leb-true (r + begun (c .check) (length bytes)) 256 (sym (own-write bytes) ∙ h)
@@ -47,7 +49,8 @@ unfolding begun
 begun-take true j bytes = let part = length-take j bytes in omega arith
 begun-take false j bytes = let part = length-take j bytes in omega arith
 
-pub answers-part : (c : Chip) (j : ℕ) (bytes : List ℕ) → answers c (write (c .address) bytes) ≡ true → answers c (write (c .address) (take j bytes)) ≡ true
+pub answers-part : (c : Chip) (j : ℕ) (bytes : List ℕ) → answers c (write (c .address) bytes) ≡ true
+    → answers c (write (c .address) (take j bytes)) ≡ true
 answers-part c zero bytes h = own-empty c
 answers-part c (suc j) [] h = own-empty c
 answers-part c (suc j) (r ∷ bytes) h =

@@ -1,4 +1,5 @@
--- What a program that quits at a fault leaves on the chip, wherever the wire is cut: what its own log leaves there, the last field cut where the wire was.
+-- What a program that quits at a fault leaves on the chip, wherever the wire is cut: what its own log leaves there, the last field cut
+-- where the wire was.
 -- Assumes nothing.
 use mathlib.Core.Path.{_≡_, refl, sym, ap, _∙_}
 use mathlib.Core.Bool.{Bool, true, false}
@@ -13,7 +14,7 @@ use Rattle.bus.specs.Fields.{if_then_else_}
 use Rattle.bus.specs.Transfers.{Transfer, write, read, Outcome, done, fault, stopped, logField, tapeField, wanted}
 use Rattle.bus.specs.Programs.{Prog, ret, ask}
 use Rattle.bus.specs.Raw.{readBytes, writeRaw}
-use Rattle.bus.specs.declared.raw.Setup.{Setup}
+use Rattle.bus.specs.declared.raw.Link.{Link}
 use Rattle.bus.specs.Decoders.{transfersIn}
 use Rattle.bus.proofs.Decoders.{Short, Fitting, AllShort, transfers-logged}
 use Rattle.bus.proofs.Framed.{Made, logged, taken}
@@ -38,7 +39,8 @@ module _ {S : Type 0} (move : S → Transfer → Reached S Outcome) where
   pub tape-made : {A : Type 0} (p : Prog A) (s : S) → tapeOf move p s ≡ taken (madeOn move p s)
   unfolding tapeOf madeOn taken
   tape-made (ret a) s = refl
-  tape-made (ask t k) s = ap (_++_ (tapeField (move s t .answer))) (tape-made (k (move s t .answer)) (move s t .device))
+  tape-made (ask t k) s =
+      ap (_++_ (tapeField (move s t .answer))) (tape-made (k (move s t .answer)) (move s t .device))
 
   all-short : {A : Type 0} {p : Prog A} → Asks Short p → (s : S) → AllShort (madeOn move p s)
   unfolding madeOn
@@ -46,17 +48,21 @@ module _ {S : Type 0} (move : S → Transfer → Reached S Outcome) where
   all-short (this {t = t} h k) s = (h, all-short (k (move s t .answer)) (move s t .device))
 
 -- the log reads back as the transfers made
-pub log-decodes : {A : Type 0} (p : Prog A) (w : Wired) → Asks Short p → transfersIn (length (logOf onWire p w)) (logOf onWire p w) ≡ some (transfersOf p w)
-log-decodes p w h = rw (log-made onWire p w) (transfers-logged (madeOn onWire p w) _ (all-short onWire h w) (omega arith))
+pub log-decodes : {A : Type 0} (p : Prog A) (w : Wired) → Asks Short p
+    → transfersIn (length (logOf onWire p w)) (logOf onWire p w) ≡ some (transfersOf p w)
+log-decodes p w h =
+    rw (log-made onWire p w) (transfers-logged (madeOn onWire p w) _ (all-short onWire h w) (omega arith))
 
 -- ---- one transfer that is done was not cut
-cut-never : (j : ℕ) (c : Chip) (t : Transfer) (yes : Bool) (bytes : List ℕ) → (if yes then carried (some j) c t else reached (fault []) c) .answer ≡ done bytes → ⊥
+cut-never : (j : ℕ) (c : Chip) (t : Transfer) (yes : Bool) (bytes : List ℕ)
+    → (if yes then carried (some j) c t else reached (fault []) c) .answer ≡ done bytes → ⊥
 unfolding carried
 cut-never j c (write a b) true bytes e = let z : _≡_ {A = ℕ} 0 1 = cc in omega arith
 cut-never j c (read a r n) true bytes e = let z : _≡_ {A = ℕ} 0 1 = cc in omega arith
 cut-never j c t false bytes e = let z : _≡_ {A = ℕ} 0 1 = cc in omega arith
 
-done-whole : (cut : Option ℕ) (c : Chip) (t : Transfer) (bytes : List ℕ) → respondCut cut c t .answer ≡ done bytes → respondCut cut c t .device ≡ respond c t .device
+done-whole : (cut : Option ℕ) (c : Chip) (t : Transfer) (bytes : List ℕ) → respondCut cut c t .answer ≡ done bytes
+    → respondCut cut c t .device ≡ respond c t .device
 unfolding respondCut
 done-whole none c t bytes e = refl
 done-whole (some j) c t bytes e = absurd (cut-never j c t (answers c t) bytes e)
@@ -81,11 +87,13 @@ module _ (w : Wired) (t : Transfer) where
   unfolding onWire
   feed-last = refl
 
-  feed-done : (bytes : List ℕ) → onWire w t .answer ≡ done bytes → respond (w .chip) t .device ≡ onWire w t .device .chip
+  feed-done : (bytes : List ℕ) → onWire w t .answer ≡ done bytes
+      → respond (w .chip) t .device ≡ onWire w t .device .chip
   unfolding onWire
   feed-done bytes e = sym (done-whole (w .cuts 0) (w .chip) t bytes e)
 
-  feed : (ts : List Transfer) (o : Outcome) → onWire w t .answer ≡ o → Fitting (wanted t) o → ((bytes : List ℕ) → o ≡ fault bytes → ts ≡ [])
+  feed : (ts : List Transfer) (o : Outcome) → onWire w t .answer ≡ o → Fitting (wanted t) o
+      → ((bytes : List ℕ) → o ≡ fault bytes → ts ≡ [])
       → fed (w .cuts (length ts)) (t ∷ ts) (w .chip) ≡ fed (w .cuts (suc (length ts - 1))) ts (onWire w t .device .chip)
   feed [] o e f h = fed-one (w .cuts 0) (w .chip) t ∙ feed-last ∙ sym (fed-none _ _)
   feed (u ∷ ts) (done bytes) e f h =
@@ -111,7 +119,8 @@ fed-last (goes {t} {k} on off) w =
     let ts = transfersOf (k o) w′ in
     let len : length ts ≡ suc (length ts) - 1 = omega arith in
     fed-last (on o) w′
-    ∙ sym (feed w t ts o refl (chip-honest w t) (λ bytes e. ap (λ (x : Outcome). transfersOf (k x) w′) e ∙ over-none (off bytes) w′))
+    ∙ sym (feed w t ts o refl (chip-honest w t)
+    (λ bytes e. ap (λ (x : Outcome). transfersOf (k x) w′) e ∙ over-none (off bytes) w′))
     ∙ ap (λ (n : ℕ). fed (w .cuts n) (t ∷ ts) (w .chip)) len
 
 -- so it is what its own log leaves there, read back from its bytes, with the last field cut
@@ -122,13 +131,13 @@ pub fed-log : {A : Type 0} {Off : A → Type 0} {p : Prog A} → Quits Off p →
 fed-log {p = p} q h w = (transfersOf p w, log-decodes p w h, fed-last q w)
 
 -- ---- the bus's calls have short fields
-module _ (s : Setup) (reg : ℕ) where
-  pub read-short : (n : ℕ) → Asks Short (readBytes s reg n)
-  read-short n = asks-bytes s reg n (λ k h. omega arith)
+module _ (link : Link) (reg : ℕ) where
+  pub read-short : (n : ℕ) → Asks Short (readBytes link reg n)
+  read-short n = asks-bytes link reg n (λ k h. omega arith)
 
-  pub write-short : (bytes : List ℕ) → Asks Short (writeRaw s reg bytes)
-  write-short bytes = asks-write s reg bytes (λ few. frame-short (s .check) few) (λ few. omega arith)
+  pub write-short : (bytes : List ℕ) → Asks Short (writeRaw link reg bytes)
+  write-short bytes = asks-write link reg bytes (λ few. frame-short (link .check) few) (λ few. omega arith)
     where
-      frame-short : (check : Bool) → length bytes ≤ 8 → suc (length (writeFrame check (s .address) reg bytes)) < 65536
-      frame-short true few = omega (arith, length-writeFrame true (s .address) reg bytes)
-      frame-short false few = omega (arith, length-writeFrame false (s .address) reg bytes)
+      frame-short : (check : Bool) → length bytes ≤ 8 → suc (length (writeFrame check (link .address) reg bytes)) < 65536
+      frame-short true few = omega (arith, length-writeFrame true (link .address) reg bytes)
+      frame-short false few = omega (arith, length-writeFrame false (link .address) reg bytes)

@@ -1,5 +1,5 @@
--- A write of a right frame, cut after any number of its bytes: a first part of the data is in the registers, and all else is as it was. One law over
--- register, data and build.
+-- A write of a right frame, cut after any number of its bytes: a first part of the data is in the registers, and all else is as it was.
+-- One law over register, data and build.
 -- Assumes nothing.
 use mathlib.Core.Path.{_≡_, sym, ap, _∙_}
 use mathlib.Core.Bool.{Bool, true, false}
@@ -41,9 +41,12 @@ module _ (c : Chip) (r : ℕ) (bytes : List ℕ) where
       let one : suc j - 1 ≡ j = omega arith in
       rw one (ap (λ (v : List ℕ). withRegs c (stores r v (c .regs))) (stored-bytes (c .check) _ bytes j))
 
-  written-all : written c (writeFrame (c .check) (c .address) r bytes) ≡ withRegs c (stores r (take (length bytes) bytes) (c .regs))
+  written-all : written c (writeFrame (c .check) (c .address) r bytes)
+      ≡ withRegs c (stores r (take (length bytes) bytes) (c .regs))
   unfolding written storedOf writeFrame
-  written-all = ap (λ (v : List ℕ). withRegs c (stores r v (c .regs))) (accepted-all (c .check) _ bytes ∙ sym (take-length bytes))
+  written-all =
+      ap (λ (v : List ℕ). withRegs c (stores r v (c .regs)))
+      (accepted-all (c .check) _ bytes ∙ sym (take-length bytes))
 
   whole-acknowledged : acknowledged c (writeFrame (c .check) (c .address) r bytes) ≡ true
   unfolding writeFrame acknowledged storedOf
@@ -72,13 +75,16 @@ module _ (c : Chip) (r : ℕ) (bytes : List ℕ) where
     first-part other size cut =
         let k = newBytes (c .check) cut bytes in
         part-stored cut
-        ∙ ap (λ (l : List ℕ). reached (ended cut) (withRegs c l)) (stores-put r (take k bytes) (c .regs) other (omega (arith, length-take k bytes)))
+        ∙ ap (λ (l : List ℕ). reached (ended cut) (withRegs c l))
+        (stores-put r (take k bytes) (c .regs) other (omega (arith, length-take k bytes)))
 
 -- ---- register by register
 module _ (regs : List ℕ) (r : ℕ) (v : List ℕ) (room : r + length v ≤ length regs) where
   pub old-below : (i : ℕ) → i < r → getD (put regs r v) i 0 ≡ getD regs i 0
   old-below i h =
-      sym (getD-take r (put regs r v) i 0 h) ∙ ap (λ (l : List ℕ). getD l i 0) (take-before regs r v room) ∙ getD-take r regs i 0 h
+      sym (getD-take r (put regs r v) i 0 h)
+      ∙ ap (λ (l : List ℕ). getD l i 0) (take-before regs r v room)
+      ∙ getD-take r regs i 0 h
 
   pub old-above : (i : ℕ) → r + length v ≤ i → getD (put regs r v) i 0 ≡ getD regs i 0
   old-above i h =
@@ -94,7 +100,8 @@ pub new-few : (check : Bool) (cut : Option ℕ) (bytes : List ℕ) → newBytes 
 new-few check none bytes = omega arith
 new-few check (some j) bytes = omega arith
 
-pub new-all : (check : Bool) (address r : ℕ) (bytes : List ℕ) (j : ℕ) → length (writeFrame check address r bytes) ≤ j → newBytes check (some j) bytes ≡ length bytes
+pub new-all : (check : Bool) (address r : ℕ) (bytes : List ℕ) (j : ℕ) → length (writeFrame check address r bytes) ≤ j
+    → newBytes check (some j) bytes ≡ length bytes
 unfolding writeFrame framed complete
 new-all true address r bytes j h = omega (arith, length-checked (writeByte address ∷ r ∷ []) bytes)
 new-all false address r bytes j h = omega arith

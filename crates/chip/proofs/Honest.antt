@@ -1,4 +1,5 @@
--- The model chip is honest: what it answers fits the transfer, and one field of the tape. So every program does on some tape what it does on the chip.
+-- The model chip is honest: what it answers fits the transfer, and one field of the tape. So every program does on some tape what it
+-- does on the chip.
 -- Assumes nothing.
 use mathlib.Core.Path.{_≡_, refl, sym, _∙_}
 use mathlib.Core.Bool.{Bool, true, false}
@@ -30,7 +31,8 @@ acknowledged-fits : (yes : Bool) → Fitting 0 (if yes then done [] else fault [
 acknowledged-fits true = (refl, omega arith)
 acknowledged-fits false = (omega arith, omega arith)
 
-carried-fits : (cut : Option ℕ) (c : Chip) (t : Transfer) → answers c t ≡ true → Fitting (wanted t) (carried cut c t .answer)
+carried-fits : (cut : Option ℕ) (c : Chip) (t : Transfer) → answers c t ≡ true
+    → Fitting (wanted t) (carried cut c t .answer)
 unfolding carried wanted
 carried-fits none c (write a bytes) h = acknowledged-fits (acknowledged c bytes)
 carried-fits (some j) c (write a bytes) h = (omega arith, omega arith)
@@ -44,7 +46,8 @@ carried-fits (some j) c (read a r n) h =
     let few = short (c .check) r n (read-within c r a n h) in
     (omega arith, omega arith)
 
-if-fits : (cut : Option ℕ) (c : Chip) (t : Transfer) (yes : Bool) → answers c t ≡ yes → Fitting (wanted t) ((if yes then carried cut c t else reached (fault []) c) .answer)
+if-fits : (cut : Option ℕ) (c : Chip) (t : Transfer) (yes : Bool) → answers c t ≡ yes
+    → Fitting (wanted t) ((if yes then carried cut c t else reached (fault []) c) .answer)
 if-fits cut c t true e = carried-fits cut c t e
 if-fits cut c t false e = (omega arith, omega arith)
 
@@ -53,5 +56,8 @@ unfolding onWire respondCut
 chip-honest w t = if-fits (w .cuts 0) (w .chip) t (answers (w .chip) t) refl
 
 -- for every chip and every cut: on the tape of the chip's answers, behind whatever came before, a program does what it does on the chip
-pub on-a-tape : {A : Type 0} (p : Prog A) (w : Wired) (b : Bus) → drop (b .at .tape) (b .tape) ≡ tapeOf onWire p w → Room b (logOf onWire p w) → AsOn onWire p w b
+pub on-a-tape : {A : Type 0} (p : Prog A) (w : Wired) (b : Bus)
+    → drop (b .at .tape) (b .tape) ≡ tapeOf onWire p w
+    → Room b (logOf onWire p w)
+    → AsOn onWire p w b
 on-a-tape p w b tape room = adequate onWire chip-honest p w b [] (tape ∙ sym (append-nil _)) room

@@ -1,5 +1,5 @@
--- How long the log of a program can become, on any wire; and so of the bus's calls: 7 bytes for a read, and for a write its field and, without
--- checks, 7 bytes for the read back.
+-- How long the log of a program can become, on any wire; and so of the bus's calls: 7 bytes for a read, and for a write its field and,
+-- without checks, 7 bytes for the read back.
 -- Assumes nothing.
 use mathlib.Core.Path.{_≡_, refl, sym, ap, _∙_}
 use mathlib.Core.Bool.{Bool, true, false, cond, not, _||_}
@@ -15,7 +15,7 @@ use Rattle.bus.specs.Fields.{if_then_else_, field}
 use Rattle.bus.specs.Transfers.{Transfer, read, write, Outcome, logField}
 use Rattle.bus.specs.Programs.{Prog, ret, ask, bind, proceed, _orLeave_, _>>=_}
 use Rattle.bus.specs.Raw.{sound, plainRead, askFrame, checkedRead, readRaw, readBytes, askWrite, send, askBack, writeRaw}
-use Rattle.bus.specs.declared.raw.Setup.{Setup}
+use Rattle.bus.specs.declared.raw.Link.{Link}
 use Rattle.chip.specs.Devices.{onDevice, logOf}
 use Rattle.chip.specs.OnChip.{Wired, onWire, onChip}
 
@@ -72,39 +72,41 @@ write-log a bytes = omega arith
 abbrev pub writeLog : Bool → ℕ → ℕ
 writeLog check k = 5 + cond check 2 1 * k + cond check 0 7
 
-module _ (s : Setup) (reg : ℕ) where
-  pub logs-read : (n : ℕ) → Logs 7 (readBytes s reg n)
+module _ (link : Link) (reg : ℕ) where
+  pub logs-read : (n : ℕ) → Logs 7 (readBytes link reg n)
   unfolding readBytes readRaw plainRead checkedRead askFrame
   logs-read n =
       let buf : List ℕ = replicate n 0 in
       logs-bind 7 0 _
-      (logs-if 7 (not (sound s)) (logs-ret 7 _)
-      (logs-if 7 (s .check)
-      (logs-if 7 (ltb (2 * s .x) (length buf)) (logs-ret 7 _)
+      (logs-if 7 (not (sound link)) (logs-ret 7 _)
+      (logs-if 7 (link .check)
+      (logs-if 7 (ltb (2 * link .x) (length buf)) (logs-ret 7 _)
       (logs-if 7 (eqb (length buf) 0) (logs-ret 7 _)
-      (logs-if 7 (ltb 256 (reg + length buf)) (logs-ret 7 _) (logs-one 7 _ _ (read-log (s .address) reg _)))))
-      (logs-if 7 (ltb 256 (reg + length buf)) (logs-ret 7 _) (logs-one 7 _ _ (read-log (s .address) reg _)))))
+      (logs-if 7 (ltb 256 (reg + length buf)) (logs-ret 7 _) (logs-one 7 _ _ (read-log (link .address) reg _)))))
+      (logs-if 7 (ltb 256 (reg + length buf)) (logs-ret 7 _) (logs-one 7 _ _ (read-log (link .address) reg _)))))
       (λ r. logs-ret 0 _)
 
   module _ (bytes : List ℕ) where
     abbrev sent : ℕ
-    sent = 5 + cond (s .check) 2 1 * length bytes
+    sent = 5 + cond (link .check) 2 1 * length bytes
 
-    logs-send : Logs sent (send s reg bytes)
+    logs-send : Logs sent (send link reg bytes)
     unfolding send askWrite
     logs-send =
-        let size = length-writeFrame (s .check) (s .address) reg bytes in
-        logs-if sent (not (sound s)) (logs-ret sent _)
+        let size = length-writeFrame (link .check) (link .address) reg bytes in
+        logs-if sent (not (sound link)) (logs-ret sent _)
         (logs-if sent (ltb 8 (length bytes)) (logs-ret sent _)
         (logs-if sent (eqb (length bytes) 0) (logs-ret sent _)
         (logs-if sent (ltb 256 (reg + length bytes)) (logs-ret sent _)
-        (logs-one sent _ _ (omega (arith, write-log (s .address) (writeFrame (s .check) (s .address) reg bytes)))))))
+        (logs-one sent _ _ (omega (arith, write-log (link .address) (writeFrame (link .check) (link .address) reg bytes)))))))
 
-    logs-back : (check : Bool) → Logs (cond check 0 7) (if check || eqb (length bytes) 0 then ret (value tt) else askBack (s .address) reg bytes)
+    logs-back : (check : Bool)
+        → Logs (cond check 0 7) (if check || eqb (length bytes) 0 then ret (value tt) else askBack (link .address) reg bytes)
     unfolding askBack
     logs-back true = logs-ret 0 _
-    logs-back false = logs-if 7 (eqb (length bytes) 0) (logs-ret 7 _) (logs-one 7 _ _ (read-log (s .address) reg (length bytes)))
+    logs-back false =
+        logs-if 7 (eqb (length bytes) 0) (logs-ret 7 _) (logs-one 7 _ _ (read-log (link .address) reg (length bytes)))
 
-    pub logs-write : Logs (writeLog (s .check) (length bytes)) (writeRaw s reg bytes)
+    pub logs-write : Logs (writeLog (link .check) (length bytes)) (writeRaw link reg bytes)
     unfolding writeRaw
-    logs-write = logs-call refused _ sent (cond (s .check) 0 7) logs-send (λ x. logs-back (s .check))
+    logs-write = logs-call refused _ sent (cond (link .check) 0 7) logs-send (λ x. logs-back (link .check))

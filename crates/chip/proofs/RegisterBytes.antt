@@ -13,7 +13,8 @@ use Rattle.frames.proofs.Frames.{bytes-readFrame}
 use Rattle.bus.specs.Fields.{if_then_else_, field}
 use Rattle.bus.specs.Transfers.{Transfer, write, read, Outcome, done, fault, stopped, tapeField}
 use Rattle.chip.specs.Devices.{Reached, reached}
-use Rattle.chip.specs.Chip.{begun, arrives, stores, agreed, accepted, storedOf, written, acknowledged, held, shows, answers, carried, respondCut, delivered}
+use Rattle.chip.specs.Chip.{begun, arrives, stores, agreed, accepted, storedOf, written, acknowledged, held, shows}
+use Rattle.chip.specs.Chip.{answers, carried, respondCut, delivered}
 use Rattle.chip.specs.declared.Chip.{Chip}
 
 -- a transfer that sends bytes
@@ -50,7 +51,8 @@ arrives-bytes (suc r) x regs k h = set-bytes regs (suc r) x h k
 stores-bytes : (r : ℕ) (bytes regs : List ℕ) → Bytes bytes → Bytes regs → Bytes (stores r bytes regs)
 unfolding stores
 stores-bytes r [] regs k h = h
-stores-bytes r (x ∷ bytes) regs k h = stores-bytes (suc r) bytes (arrives r x regs) (k .1) (arrives-bytes r x regs (k .0) h)
+stores-bytes r (x ∷ bytes) regs k h =
+    stores-bytes (suc r) bytes (arrives r x regs) (k .1) (arrives-bytes r x regs (k .0) h)
 
 if-bytes : (yes : Bool) (l : List ℕ) → Bytes l → Bytes (if yes then l else [])
 if-bytes true l h = h
@@ -60,7 +62,8 @@ agreed-bytes : (before bytes : List ℕ) → Bytes bytes → Bytes (agreed befor
 unfolding agreed
 agreed-bytes before [] h = tt
 agreed-bytes before (x ∷ []) h = tt
-agreed-bytes before (x ∷ c ∷ rest) h = if-bytes (eqb c (checkByte (before ++ x ∷ []))) (x ∷ agreed [] rest) (h .0, agreed-bytes [] rest (h .1 .1))
+agreed-bytes before (x ∷ c ∷ rest) h =
+    if-bytes (eqb c (checkByte (before ++ x ∷ []))) (x ∷ agreed [] rest) (h .0, agreed-bytes [] rest (h .1 .1))
 
 accepted-bytes : (check : Bool) (before bytes : List ℕ) → Bytes bytes → Bytes (accepted check before bytes)
 unfolding accepted
@@ -81,11 +84,13 @@ module _ (c : Chip) (h : Bytes (c .regs)) where
   written-bytes : (bytes : List ℕ) → Bytes bytes → Bytes (written c bytes .regs)
   unfolding written storedOf
   written-bytes [] k = h
-  written-bytes (r ∷ bytes) k = stores-bytes r _ (c .regs) (accepted-bytes (c .check) (writeByte (c .address) ∷ r ∷ []) bytes (k .1)) h
+  written-bytes (r ∷ bytes) k =
+      stores-bytes r _ (c .regs) (accepted-bytes (c .check) (writeByte (c .address) ∷ r ∷ []) bytes (k .1)) h
 
   shows-bytes : (r n : ℕ) → Bytes (shows c r n)
   unfolding shows
-  shows-bytes r n = take-bytes n _ (bytes-readFrame (c .check) (c .address) _ (held-bytes r (begun (c .check) n) (c .regs) h))
+  shows-bytes r n =
+      take-bytes n _ (bytes-readFrame (c .check) (c .address) _ (held-bytes r (begun (c .check) n) (c .regs) h))
 
   acknowledged-bytes : (yes : Bool) → Bytes (delivered (if yes then done [] else fault []))
   acknowledged-bytes true = tt
@@ -93,12 +98,15 @@ module _ (c : Chip) (h : Bytes (c .regs)) where
 
   carried-bytes : (cut : Option ℕ) (t : Transfer) → Sends t → Both (carried cut c t)
   unfolding carried
-  carried-bytes none (write a bytes) k = record { answer = acknowledged-bytes (acknowledged c bytes); device = written-bytes bytes k }
-  carried-bytes (some j) (write a bytes) k = record { answer = tt; device = written-bytes (take j bytes) (take-bytes j bytes k) }
+  carried-bytes none (write a bytes) k =
+      record { answer = acknowledged-bytes (acknowledged c bytes); device = written-bytes bytes k }
+  carried-bytes (some j) (write a bytes) k =
+      record { answer = tt; device = written-bytes (take j bytes) (take-bytes j bytes k) }
   carried-bytes none (read a r n) k = record { answer = shows-bytes r n; device = h }
   carried-bytes (some j) (read a r n) k = record { answer = take-bytes j (shows c r n) (shows-bytes r n); device = h }
 
-  if-both : (cut : Option ℕ) (t : Transfer) (yes : Bool) → Sends t → Both (if yes then carried cut c t else reached (fault []) c)
+  if-both : (cut : Option ℕ) (t : Transfer) (yes : Bool) → Sends t
+      → Both (if yes then carried cut c t else reached (fault []) c)
   if-both cut t true k = carried-bytes cut t k
   if-both cut t false k = record { answer = tt; device = h }
 

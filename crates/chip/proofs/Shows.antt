@@ -34,7 +34,8 @@ unfolding shows
 length-shows c r n =
     let regs = held r (begun (c .check) n) (c .regs) in
     length-take-le n (readFrame (c .check) (c .address) regs)
-    (rw (length-readFrame (c .check) (c .address) regs) (enough (c .check) n (length regs) (length-held r (begun (c .check) n) (c .regs))))
+    (rw (length-readFrame (c .check) (c .address) regs)
+    (enough (c .check) n (length regs) (length-held r (begun (c .check) n) (c .regs))))
 
 -- ---- the frame of n registers, which is shown whole
 begun-whole : (check : Bool) (n : ℕ) → begun check (cond check 2 1 * n) ≡ n
@@ -42,7 +43,8 @@ unfolding begun
 begun-whole true n = omega arith
 begun-whole false n = omega arith
 
-shows-whole : (c : Chip) (r n : ℕ) → shows c r (cond (c .check) 2 1 * n) ≡ readFrame (c .check) (c .address) (held r n (c .regs))
+shows-whole : (c : Chip) (r n : ℕ)
+    → shows c r (cond (c .check) 2 1 * n) ≡ readFrame (c .check) (c .address) (held r n (c .regs))
 unfolding shows
 shows-whole c r n =
     let regs = held r n (c .regs) in
@@ -64,9 +66,11 @@ module _ (c : Chip) (r n : ℕ) where
 
   pub read-part : r + n ≤ 256 → (cut : Option ℕ) → respondCut cut c (read (c .address) r (cond (c .check) 2 1 * n))
       ≡ reached (delivers cut (readFrame (c .check) (c .address) (held r n (c .regs)))) c
-  read-part room cut = responds cut c _ (answers-read c r (cond (c .check) 2 1 * n) (rw (begun-whole (c .check) n) room)) ∙ by-cut cut
+  read-part room cut =
+      responds cut c _ (answers-read c r (cond (c .check) 2 1 * n) (rw (begun-whole (c .check) n) room)) ∙ by-cut cut
 
-  pub plain-part : c .check ≡ false → r + n ≤ 256 → (cut : Option ℕ) → respondCut cut c (read (c .address) r n) ≡ reached (delivers cut (held r n (c .regs))) c
+  pub plain-part : c .check ≡ false → r + n ≤ 256 → (cut : Option ℕ)
+      → respondCut cut c (read (c .address) r n) ≡ reached (delivers cut (held r n (c .regs))) c
   unfolding readFrame framed
   plain-part e room cut =
       let alone : cond (c .check) 2 1 * n ≡ n = rw e (omega arith) in
@@ -83,7 +87,8 @@ held-is r (suc n) regs h =
     let here : r < length regs = omega arith in
     rw (drop-cons regs r 0) (ap (_∷_ (getD regs r 0)) (held-is (suc r) n regs (omega arith)))
 
-behind : (r : ℕ) (v regs : List ℕ) → r + length v ≤ length regs → drop r (put regs r v) ≡ v ++ drop (r + length v) regs
+behind : (r : ℕ) (v regs : List ℕ) → r + length v ≤ length regs
+    → drop r (put regs r v) ≡ v ++ drop (r + length v) regs
 unfolding put
 behind r v regs h =
     let start : length (take r regs) ≡ r = length-take-le r regs (omega arith) in
@@ -91,4 +96,7 @@ behind r v regs h =
 
 -- what was put there
 pub held-put : (r : ℕ) (v regs : List ℕ) → r + length v ≤ length regs → held r (length v) (put regs r v) ≡ v
-held-put r v regs h = held-is r (length v) (put regs r v) (rw (length-put regs r v h) h) ∙ ap (take (length v)) (behind r v regs h) ∙ take-at v _ (length v) refl
+held-put r v regs h =
+    held-is r (length v) (put regs r v) (rw (length-put regs r v h) h)
+    ∙ ap (take (length v)) (behind r v regs h)
+    ∙ take-at v _ (length v) refl

@@ -20,7 +20,8 @@ use Rattle.chip.specs.declared.Chip.{Chip}
 use Rattle.chip.proofs.Shows.{length-held}
 
 -- ---- a byte stored
-pub arrives-status : (r x : ℕ) (regs : List ℕ) → r ≡ 0 → set regs 0 (getD regs 0 0 - bitAnd (getD regs 0 0) x) ≡ arrives r x regs
+pub arrives-status : (r x : ℕ) (regs : List ℕ) → r ≡ 0
+    → set regs 0 (getD regs 0 0 - bitAnd (getD regs 0 0) x) ≡ arrives r x regs
 unfolding arrives
 arrives-status zero x regs e = refl
 arrives-status (suc r) x regs e = absurd (omega arith)
@@ -29,13 +30,18 @@ arrives-status (suc r) x regs e = absurd (omega arith)
 leb-same : (a b c d : ℕ) (p q : Bool) → leb a b ≡ p → leb c d ≡ q → (a ≤ b → c ≤ d) → (c ≤ d → a ≤ b) → p ≡ q
 leb-same a b c d true true e f there back = refl
 leb-same a b c d false false e f there back = refl
-leb-same a b c d true false e f there back = let h = there (leb-true a b e) in absurd (omega (arith, leb-false c d f))
-leb-same a b c d false true e f there back = let h = back (leb-true c d f) in absurd (omega (arith, leb-false a b e))
+leb-same a b c d true false e f there back =
+    let h = there (leb-true a b e) in
+    absurd (omega (arith, leb-false c d f))
+leb-same a b c d false true e f there back =
+    let h = back (leb-true c d f) in
+    absurd (omega (arith, leb-false a b e))
 
 module _ (r n : ℕ) (reg : r < 256) where
   pub within-checked : leb (n - n / 2) (256 - r) ≡ leb (r + begun true n) 256
   unfolding begun
-  within-checked = leb-same (n - n / 2) (256 - r) (r + (n + 1) / 2) 256 _ _ refl refl (λ h. omega arith) (λ h. omega arith)
+  within-checked =
+      leb-same (n - n / 2) (256 - r) (r + (n + 1) / 2) 256 _ _ refl refl (λ h. omega arith) (λ h. omega arith)
 
   pub within-alone : leb n (256 - r) ≡ leb (r + begun false n) 256
   unfolding begun
@@ -59,7 +65,8 @@ begun-more false r i n h room = omega arith
 
 -- ---- without checks: a byte is stored, and then the rest
 module _ (r i : ℕ) (bytes regs : List ℕ) where
-  pub stores-one : i < length bytes → stores (r + (i + 1)) (drop (i + 1) bytes) (arrives (r + i) (getD bytes i 0) regs) ≡ stores (r + i) (drop i bytes) regs
+  pub stores-one : i < length bytes
+      → stores (r + (i + 1)) (drop (i + 1) bytes) (arrives (r + i) (getD bytes i 0) regs) ≡ stores (r + i) (drop i bytes) regs
   unfolding stores
   stores-one h =
       let after : r + (i + 1) ≡ suc (r + i) = omega arith in
@@ -72,7 +79,8 @@ module _ (r i : ℕ) (bytes regs : List ℕ) where
 -- ---- with checks: a byte and its check byte
 module _ (before l : List ℕ) (i : ℕ) where
   next-agreed : i + 1 < length l
-      → agreed before (drop i l) ≡ (if eqb (getD l (i + 1) 0) (checkByte (before ++ getD l i 0 ∷ [])) then getD l i 0 ∷ agreed [] (drop (i + 2) l) else [])
+      → agreed before (drop i l)
+      ≡ (if eqb (getD l (i + 1) 0) (checkByte (before ++ getD l i 0 ∷ [])) then getD l i 0 ∷ agreed [] (drop (i + 2) l) else [])
   unfolding agreed
   next-agreed h =
       let here : i < length l = omega arith in
@@ -112,7 +120,8 @@ module _ (c : Chip) (r : ℕ) (before l : List ℕ) (i : ℕ) where
     unfolding stores
     chip-wrong n = sym (ap storing (agreed-wrong before l i x h e n))
 
-    pub chip-right : x ≡ getD l (i + 1) 0 → (d : Chip) → d ≡ withRegs c (arrives r (getD l i 0) (c .regs)) → (r′ i′ : ℕ) → r′ ≡ r + 1 → i′ ≡ i + 2
+    pub chip-right : x ≡ getD l (i + 1) 0 → (d : Chip) → d ≡ withRegs c (arrives r (getD l i 0) (c .regs))
+        → (r′ i′ : ℕ) → r′ ≡ r + 1 → i′ ≡ i + 2
         → withRegs d (stores r′ (agreed [] (drop i′ l)) (d .regs)) ≡ all
     unfolding stores
     chip-right m d is r′ i′ er ei = rw (is, er, ei, add-one) (sym (ap storing (agreed-right before l i x h e m)))
@@ -143,7 +152,8 @@ covered-none : (k : ℕ) → covered [] k ≡ []
 covered-none zero = refl
 covered-none (suc k) = refl
 
-getD-check : (before bytes : List ℕ) (k : ℕ) → k < length bytes → getD (checked before bytes) (2 * k + 1) 0 ≡ checkByte (covered before k ++ getD bytes k 0 ∷ [])
+getD-check : (before bytes : List ℕ) (k : ℕ) → k < length bytes
+    → getD (checked before bytes) (2 * k + 1) 0 ≡ checkByte (covered before k ++ getD bytes k 0 ∷ [])
 unfolding checked
 getD-check before [] k h = absurd (omega arith)
 getD-check before (x ∷ bytes) zero h = refl
@@ -152,7 +162,8 @@ getD-check before (x ∷ bytes) (suc k) h =
     rw two (getD-check [] bytes k (omega arith) ∙ rw (covered-none k))
 
 module _ (c : Chip) (r n i : ℕ) (within : i < n) where
-  shown-frame : (check : Bool) → c .check ≡ check → getD (shows c r n) i 0 ≡ getD (readFrame check (c .address) (held r (begun check n) (c .regs))) i 0
+  shown-frame : (check : Bool) → c .check ≡ check
+      → getD (shows c r n) i 0 ≡ getD (readFrame check (c .address) (held r (begun check n) (c .regs))) i 0
   unfolding shows
   shown-frame check e = getD-take n _ i 0 within ∙ rw e
 
@@ -170,7 +181,8 @@ module _ (c : Chip) (r n i : ℕ) (within : i < n) where
         ∙ getD-data _ _ (i / 2)
         ∙ getD-held r ((n + 1) / 2) (i / 2) (c .regs) (omega arith))
 
-    shown-covered : (k : ℕ) → i ≡ 2 * k + 1 → checkByte (covered (readByte (c .address) ∷ []) k ++ getD (c .regs) (r + k) 0 ∷ []) ≡ getD (shows c r n) i 0
+    shown-covered : (k : ℕ) → i ≡ 2 * k + 1
+        → checkByte (covered (readByte (c .address) ∷ []) k ++ getD (c .regs) (r + k) 0 ∷ []) ≡ getD (shows c r n) i 0
     unfolding readFrame framed begun
     shown-covered k odd =
         let regs = held r ((n + 1) / 2) (c .regs) in
@@ -180,19 +192,22 @@ module _ (c : Chip) (r n i : ℕ) (within : i < n) where
         ∙ getD-check _ regs k (rw length-held there)
         ∙ rw (getD-held r ((n + 1) / 2) k (c .regs) there))
 
-    pub shown-first : i ≡ 1 → checkByte (readByte (c .address) ∷ getD (c .regs) (r + i / 2) 0 ∷ []) ≡ getD (shows c r n) i 0
+    pub shown-first : i ≡ 1
+        → checkByte (readByte (c .address) ∷ getD (c .regs) (r + i / 2) 0 ∷ []) ≡ getD (shows c r n) i 0
     shown-first one =
         let none : r + i / 2 ≡ r + 0 = omega arith in
         rw none (shown-covered 0 one)
 
-    pub shown-later : (i % 2 ≡ 0 → ⊥) → (i ≡ 1 → ⊥) → checkByte (getD (c .regs) (r + i / 2) 0 ∷ []) ≡ getD (shows c r n) i 0
+    pub shown-later : (i % 2 ≡ 0 → ⊥) → (i ≡ 1 → ⊥)
+        → checkByte (getD (c .regs) (r + i / 2) 0 ∷ []) ≡ getD (shows c r n) i 0
     shown-later odd more =
         let k = i / 2 - 1 in
         let half : i / 2 ≡ suc k = omega arith in
         rw half (shown-covered (suc k) (omega arith))
 
 -- ---- one byte more of a read
-pub filled-one : (i v : ℕ) (out all : List ℕ) → i < length out → length out ≡ length all → v ≡ getD all i 0 → take i out ≡ take i all
+pub filled-one : (i v : ℕ) (out all : List ℕ)
+    → i < length out → length out ≡ length all → v ≡ getD all i 0 → take i out ≡ take i all
     → take (i + 1) (set out i v) ≡ take (i + 1) all
 filled-one i v out all h same is before =
     let there : i < length all = omega arith in

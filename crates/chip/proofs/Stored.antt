@@ -28,17 +28,20 @@ agreed-cut before (x ∷ bytes) (suc (suc j)) =
     let c = checkByte (before ++ x ∷ []) in
     rw (eq-eqb c c refl, half, agreed-cut [] bytes j)
 
-accepted-cut : (check : Bool) (before bytes : List ℕ) (j : ℕ) → accepted check before (take j (framed check before bytes)) ≡ take (complete check j) bytes
+accepted-cut : (check : Bool) (before bytes : List ℕ) (j : ℕ)
+    → accepted check before (take j (framed check before bytes)) ≡ take (complete check j) bytes
 unfolding accepted framed complete
 accepted-cut true before bytes j = agreed-cut before bytes j
 accepted-cut false before bytes j = refl
 
-pub complete-frame : (check : Bool) (before bytes : List ℕ) → complete check (length (framed check before bytes)) ≡ length bytes
+pub complete-frame : (check : Bool) (before bytes : List ℕ)
+    → complete check (length (framed check before bytes)) ≡ length bytes
 unfolding complete framed
 complete-frame true before bytes = omega (arith, length-checked before bytes)
 complete-frame false before bytes = refl
 
-pub begun-frame : (check : Bool) (before bytes : List ℕ) → begun check (length (framed check before bytes)) ≡ length bytes
+pub begun-frame : (check : Bool) (before bytes : List ℕ)
+    → begun check (length (framed check before bytes)) ≡ length bytes
 unfolding begun framed
 begun-frame true before bytes = omega (arith, length-checked before bytes)
 begun-frame false before bytes = refl
@@ -57,7 +60,8 @@ unfolding arrives
 arrives-set zero x regs h = absurd (omega arith)
 arrives-set (suc r) x regs h = refl
 
-pub stores-put : (r : ℕ) (bytes regs : List ℕ) → 0 < r → r + length bytes ≤ length regs → stores r bytes regs ≡ put regs r bytes
+pub stores-put : (r : ℕ) (bytes regs : List ℕ) → 0 < r → r + length bytes ≤ length regs
+    → stores r bytes regs ≡ put regs r bytes
 unfolding stores
 stores-put r [] regs h room = sym (put-none regs r)
 stores-put r (x ∷ bytes) regs h room =
@@ -76,5 +80,6 @@ none-complete true = refl
 none-complete false = refl
 
 -- data as it goes over the bus, as many bytes of it stored as the cut says
-pub stored-bytes : (check : Bool) (before bytes : List ℕ) (j : ℕ) → accepted check before (take j (framed check before bytes)) ≡ take (min (complete check j) (length bytes)) bytes
+pub stored-bytes : (check : Bool) (before bytes : List ℕ) (j : ℕ)
+    → accepted check before (take j (framed check before bytes)) ≡ take (min (complete check j) (length bytes)) bytes
 stored-bytes check before bytes j = accepted-cut check before bytes j ∙ sym (take-min (complete check j) bytes)

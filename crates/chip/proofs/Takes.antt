@@ -1,4 +1,5 @@
--- What the code does with a whole transfer: the first byte of a write is the register, and what follows it is the data; a read fills the caller's bytes.
+-- What the code does with a whole transfer: the first byte of a write is the register, and what follows it is the data; a read fills
+-- the caller's bytes.
 -- Assumes nothing.
 use mathlib.Core.Path.{_≡_, refl, sym, ap, _∙_}
 use mathlib.Core.Bool.{Bool, true, false}
@@ -15,13 +16,14 @@ use Rattle.frames.specs.Put.{put}
 use Rattle.frames.proofs.Put.{put-none, put-all}
 use Rattle.bus.specs.Transfers.{Transfer, write, read, Outcome}
 use Rattle.chip.specs.Devices.{Reached}
-use Rattle.chip.specs.Chip.{withRegs, begun, stores, accepted, storedOf, written, shows, answers, carried, respondCut, respond, delivered}
+use Rattle.chip.specs.Chip.{withRegs, begun, stores, accepted, storedOf, written, shows}
+use Rattle.chip.specs.Chip.{answers, carried, respondCut, respond, delivered}
 use Rattle.chip.specs.declared.Chip.{Chip}
 use Rattle.chip.proofs.Answers.{own-empty, own-write, responds, unanswered}
 use Rattle.chip.proofs.Shows.{length-shows}
 
 -- what follows the first byte
-abbrev rest : List ℕ → List ℕ
+abbrev pub rest : List ℕ → List ℕ
 rest l = take (length l - 1) (drop 1 l)
 
 head-rest : (l : List ℕ) → 0 < length l → l ≡ getD l 0 0 ∷ rest l
@@ -52,7 +54,8 @@ module _ (c : Chip) (l : List ℕ) where
     pub answered-some : leb (getD l 0 0 + begun (c .check) (length l - 1)) 256 ≡ answers c (write (c .address) l)
     answered-some = sym (is ∙ rw length-rest)
 
-    pub rest-within : answers c (write (c .address) l) ≡ true → (check : Bool) → c .check ≡ check → getD l 0 0 + begun check (length (rest l)) ≤ 256
+    pub rest-within : answers c (write (c .address) l) ≡ true → (check : Bool) → c .check ≡ check
+        → getD l 0 0 + begun check (length (rest l)) ≤ 256
     rest-within h check e = rw e at (leb-true (getD l 0 0 + begun (c .check) (length (rest l))) 256 (sym is ∙ h))
 
     written-some : written c l ≡ withRegs c (stores (getD l 0 0) (storedOf c (getD l 0 0) (rest l)) (c .regs))
@@ -60,10 +63,12 @@ module _ (c : Chip) (l : List ℕ) where
     written-some = ap (written c) (head-rest l more)
 
     pub written-by : (check : Bool) → c .check ≡ check
-        → withRegs c (stores (getD l 0 0) (accepted check (writeByte (c .address) ∷ getD l 0 0 ∷ []) (rest l)) (c .regs)) ≡ written c l
+        → withRegs c (stores (getD l 0 0) (accepted check (writeByte (c .address) ∷ getD l 0 0 ∷ []) (rest l)) (c .regs))
+        ≡ written c l
     unfolding storedOf
     written-by check e =
-        let same : accepted check (writeByte (c .address) ∷ getD l 0 0 ∷ []) (rest l) ≡ storedOf c (getD l 0 0) (rest l) = rw e in
+        let same : accepted check (writeByte (c .address) ∷ getD l 0 0 ∷ []) (rest l)
+        ≡ storedOf c (getD l 0 0) (rest l) = rw e in
         ap (λ (v : List ℕ). withRegs c (stores (getD l 0 0) v (c .regs))) same ∙ sym written-some
 
 -- ---- the chip after a transfer that is answered, and after one that is not
@@ -80,7 +85,9 @@ module _ (c : Chip) (r : ℕ) (out : List ℕ) where
   asked = read (c .address) r (length out)
 
   pub not-filled : answers c asked ≡ false → out ≡ put out 0 (delivered (respond c asked .answer))
-  not-filled away = sym (ap (λ (x : Reached Chip Outcome). put out 0 (delivered (x .answer))) (unanswered none c asked away) ∙ put-none out 0)
+  not-filled away =
+      sym (ap (λ (x : Reached Chip Outcome). put out 0 (delivered (x .answer))) (unanswered none c asked away)
+      ∙ put-none out 0)
 
   pub filled : answers c asked ≡ true → shows c r (length out) ≡ put out 0 (delivered (respond c asked .answer))
   unfolding carried

@@ -16,7 +16,7 @@ use Rattle.bus.specs.Fields.{if_then_else_}
 use Rattle.bus.specs.Transfers.{Transfer, write, read, fault}
 use Rattle.bus.specs.Programs.{Prog}
 use Rattle.bus.specs.Raw.{readBytes, writeRaw}
-use Rattle.bus.specs.declared.raw.Setup.{Setup}
+use Rattle.bus.specs.declared.raw.Link.{Link}
 use Rattle.chip.specs.Devices.{reached}
 use Rattle.chip.specs.Chip.{begun, arrives, stores, agreed, accepted, storedOf, written, answers, carried, respondCut}
 use Rattle.chip.specs.OnChip.{Matches, Wired, onWire, onChip}
@@ -37,7 +37,8 @@ unfolding arrives
 arrives-other zero i x regs h = getD-set-other regs 0 i _ 0 h
 arrives-other (suc r) i x regs h = getD-set-other regs (suc r) i _ 0 h
 
-stores-other : (i r : ℕ) (bytes regs : List ℕ) → (r ≤ i → i < r + length bytes → ⊥) → getD (stores r bytes regs) i 0 ≡ getD regs i 0
+stores-other : (i r : ℕ) (bytes regs : List ℕ) → (r ≤ i → i < r + length bytes → ⊥)
+    → getD (stores r bytes regs) i 0 ≡ getD regs i 0
 unfolding stores
 stores-other i r [] regs h = refl
 stores-other i r (x ∷ bytes) regs h =
@@ -54,7 +55,8 @@ unfolding stores
 length-stores r [] regs = refl
 length-stores r (x ∷ bytes) regs = length-stores (suc r) bytes (arrives r x regs) ∙ length-arrives r x regs
 
-if-few : (x : ℕ) (more rest : List ℕ) (yes : Bool) → 2 * length more ≤ length rest → 2 * length (if yes then x ∷ more else []) ≤ suc (suc (length rest))
+if-few : (x : ℕ) (more rest : List ℕ) (yes : Bool) → 2 * length more ≤ length rest
+    → 2 * length (if yes then x ∷ more else []) ≤ suc (suc (length rest))
 if-few x more rest true h = omega arith
 if-few x more rest false h = omega arith
 
@@ -62,7 +64,8 @@ agreed-few : (before bytes : List ℕ) → 2 * length (agreed before bytes) ≤ 
 unfolding agreed
 agreed-few before [] = omega arith
 agreed-few before (x ∷ []) = omega arith
-agreed-few before (x ∷ c ∷ rest) = if-few x (agreed [] rest) rest (eqb c (checkByte (before ++ x ∷ []))) (agreed-few [] rest)
+agreed-few before (x ∷ c ∷ rest) =
+    if-few x (agreed [] rest) rest (eqb c (checkByte (before ++ x ∷ []))) (agreed-few [] rest)
 
 accepted-few : (check : Bool) (before bytes : List ℕ) → length (accepted check before bytes) ≤ begun check (length bytes)
 unfolding accepted begun
@@ -70,19 +73,23 @@ accepted-few true before bytes = omega (arith, agreed-few before bytes)
 accepted-few false before bytes = omega arith
 
 -- a first part of a write reaches no more than the whole
-spares-part : (check : Bool) (i a j : ℕ) (bytes : List ℕ) → Spares check i (write a bytes) → Spares check i (write a (take j bytes))
+spares-part : (check : Bool) (i a j : ℕ) (bytes : List ℕ) → Spares check i (write a bytes)
+    → Spares check i (write a (take j bytes))
 spares-part check i a zero bytes h = tt
 spares-part check i a (suc j) [] h = tt
 spares-part check i a (suc j) (r ∷ bytes) h = λ p q. h p (omega (arith, begun-take check j bytes))
 
 module _ (i : ℕ) (c : Chip) where
-  written-other : (a : ℕ) (bytes : List ℕ) → Spares (c .check) i (write a bytes) → getD (written c bytes .regs) i 0 ≡ getD (c .regs) i 0
+  written-other : (a : ℕ) (bytes : List ℕ) → Spares (c .check) i (write a bytes)
+      → getD (written c bytes .regs) i 0 ≡ getD (c .regs) i 0
   unfolding written storedOf
   written-other a [] h = refl
   written-other a (r ∷ bytes) h =
-      stores-other i r _ (c .regs) (λ p q. h p (omega (arith, accepted-few (c .check) (writeByte (c .address) ∷ r ∷ []) bytes)))
+      stores-other i r _ (c .regs)
+      (λ p q. h p (omega (arith, accepted-few (c .check) (writeByte (c .address) ∷ r ∷ []) bytes)))
 
-  carried-other : (cut : Option ℕ) (t : Transfer) → Spares (c .check) i t → getD (carried cut c t .device .regs) i 0 ≡ getD (c .regs) i 0
+  carried-other : (cut : Option ℕ) (t : Transfer) → Spares (c .check) i t
+      → getD (carried cut c t .device .regs) i 0 ≡ getD (c .regs) i 0
   unfolding carried
   carried-other none (write a bytes) h = written-other a bytes h
   carried-other (some j) (write a bytes) h = written-other a (take j bytes) (spares-part (c .check) i a j bytes h)
@@ -116,7 +123,8 @@ module _ (c : Chip) where
   carried-kind none (read a r n) = same-kind
   carried-kind (some j) (read a r n) = same-kind
 
-  if-kind : (cut : Option ℕ) (t : Transfer) (yes : Bool) → SameKind c ((if yes then carried cut c t else reached (fault []) c) .device)
+  if-kind : (cut : Option ℕ) (t : Transfer) (yes : Bool)
+      → SameKind c ((if yes then carried cut c t else reached (fault []) c) .device)
   if-kind cut t true = carried-kind cut t
   if-kind cut t false = same-kind
 
@@ -139,32 +147,43 @@ module _ (w : Wired) (t : Transfer) where
   unfolding onWire respondCut
   wire-kind = if-kind (w .chip) (w .cuts 0) t (answers (w .chip) t)
 
-  wire-other : (i : ℕ) → Spares (w .chip .check) i t → getD (onWire w t .device .chip .regs) i 0 ≡ getD (w .chip .regs) i 0
+  wire-other : (i : ℕ) → Spares (w .chip .check) i t
+      → getD (onWire w t .device .chip .regs) i 0 ≡ getD (w .chip .regs) i 0
   unfolding onWire respondCut
   wire-other i h = if-other i (w .chip) (w .cuts 0) t (answers (w .chip) t) h
 
 -- ---- every program on every wire
 pub kind-kept : {A : Type 0} (p : Prog A) (w : Wired) → SameKind (w .chip) (onChip p w .device .chip)
-kind-kept p w = keeps onWire (λ v. SameKind (w .chip) (v .chip)) (λ v t k. both-kinds k (wire-kind v t)) p w (same-kind (w .chip))
+kind-kept p w =
+    keeps onWire (λ v. SameKind (w .chip) (v .chip)) (λ v t k. both-kinds k (wire-kind v t)) p w (same-kind (w .chip))
 
-pub untouched : {A : Type 0} (p : Prog A) (i : ℕ) (w : Wired) {check : Bool} → w .chip .check ≡ check → Asks (Spares check i) p
+pub untouched : {A : Type 0} (p : Prog A) (i : ℕ) (w : Wired) {check : Bool}
+    → w .chip .check ≡ check → Asks (Spares check i) p
     → getD (onChip p w .device .chip .regs) i 0 ≡ getD (w .chip .regs) i 0
 untouched p i w {check} same h =
     kept onWire (λ v. (v .chip .check ≡ check) × (getD (v .chip .regs) i 0 ≡ getD (w .chip .regs) i 0))
-    (λ v t spared e. (wire-kind v t .check ∙ e .0, wire-other v t i (subst (λ (b : Bool). Spares b i t) (sym (e .0)) spared) ∙ e .1))
+    (λ v t spared e. (
+      wire-kind v t .check ∙ e .0,
+      wire-other v t i (subst (λ (b : Bool). Spares b i t) (sym (e .0)) spared) ∙ e .1,
+    ))
     h w (same, refl) .1
 
--- so a setup goes on speaking to its chip
-pub matches-kept : {A : Type 0} (s : Setup) (p : Prog A) (w : Wired) → Matches s (w .chip) → Matches s (onChip p w .device .chip)
-matches-kept s p w m =
+-- so a link goes on speaking to its chip
+pub matches-kept : {A : Type 0} (link : Link) (p : Prog A) (w : Wired) → Matches link (w .chip)
+    → Matches link (onChip p w .device .chip)
+matches-kept link p w m =
     let k = kind-kept p w in
     record { address = m .address ∙ sym (k .address); check = m .check ∙ sym (k .check); size = k .size ∙ m .size }
 
 -- ---- the bus's calls
-module _ (s : Setup) (i reg : ℕ) where
-  pub read-spares : (n : ℕ) → Asks (Spares (s .check) i) (readBytes s reg n)
-  read-spares n = asks-bytes s reg n (λ k h. tt)
+module _ (link : Link) (i reg : ℕ) where
+  pub read-spares : (n : ℕ) → Asks (Spares (link .check) i) (readBytes link reg n)
+  read-spares n = asks-bytes link reg n (λ k h. tt)
 
-  pub write-spares : (bytes : List ℕ) → (reg ≤ i → i < reg + length bytes → ⊥) → Asks (Spares (s .check) i) (writeRaw s reg bytes)
+  pub write-spares : (bytes : List ℕ) → (reg ≤ i → i < reg + length bytes → ⊥)
+      → Asks (Spares (link .check) i) (writeRaw link reg bytes)
   unfolding writeFrame
-  write-spares bytes h = asks-write s reg bytes (λ few p q. h p (omega (arith, begun-frame (s .check) (writeByte (s .address) ∷ reg ∷ []) bytes))) (λ few. tt)
+  write-spares bytes h =
+      asks-write link reg bytes
+      (λ few p q. h p (omega (arith, begun-frame (link .check) (writeByte (link .address) ∷ reg ∷ []) bytes)))
+      (λ few. tt)

@@ -52,7 +52,8 @@ unfoldable pub stores : ℕ → List ℕ → List ℕ → List ℕ
 stores r [] regs = regs
 stores r (x ∷ bytes) regs = stores (suc r) bytes (arrives r x regs)
 
--- with checks, the data bytes whose check byte has come and agrees, up to the first that does not; the first check byte covers what went before too
+-- with checks, the data bytes whose check byte has come and agrees, up to the first that does not; the first check byte covers what
+-- went before too
 unfoldable pub agreed : List ℕ → List ℕ → List ℕ
 agreed before [] = []
 agreed before (x ∷ []) = []
@@ -96,7 +97,8 @@ answers c (write a []) = eqb a (c .address)
 answers c (write a (r ∷ bytes)) = eqb a (c .address) && leb (r + begun (c .check) (length bytes)) 256
 answers c (read a r n) = eqb a (c .address) && leb (r + begun (c .check) n) 256
 
--- a transfer that it answers, whole, or cut after so many bytes behind the address byte: then what came is stored, or delivered, and it faults
+-- a transfer that it answers, whole, or cut after so many bytes behind the address byte: then what came is stored, or delivered, and
+-- it faults
 unfoldable pub carried : Option ℕ → Chip → Transfer → Reached Chip Outcome
 carried none c (write a bytes) = reached (if acknowledged c bytes then done [] else fault []) (written c bytes)
 carried none c (read a r n) = reached (done (shows c r n)) c

@@ -1,5 +1,5 @@
--- What a program does on a device in place of tape and log: a device is a state, and how it answers one transfer and what it then is, events of its own
--- included. Its answers are a tape, and the transfers made on it a log.
+-- What a program does on a device in place of tape and log: a device is a state, and how it answers one transfer and what it then is,
+-- events of its own included. Its answers are a tape, and the transfers made on it a log.
 -- Assumes nothing.
 use mathlib.Core.List.{List, [], _∷_, _++_}
 use Prim.Native.Nat.{ℕ}

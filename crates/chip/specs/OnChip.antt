@@ -7,15 +7,15 @@ use Prim.Native.Nat.{ℕ, suc}
 use lib.ListN.{length}
 use Rattle.bus.specs.Transfers.{Transfer, Outcome}
 use Rattle.bus.specs.Programs.{Prog}
-use Rattle.bus.specs.declared.raw.Setup.{Setup}
+use Rattle.bus.specs.declared.raw.Link.{Link}
 use Rattle.chip.specs.Devices.{Reached, reached, onDevice}
 use Rattle.chip.specs.Chip.{respond, respondCut}
 use Rattle.chip.specs.declared.Chip.{Chip}
 
--- the chip that a setup speaks to: it has its address and check setting, and 256 registers
-pub record Matches (s : Setup) (c : Chip) : Type 0 where
-  pub address : s .address ≡ c .address
-  pub check : s .check ≡ c .check
+-- the chip that a link speaks to: it has its address and check setting, and 256 registers
+pub record Matches (link : Link) (c : Chip) : Type 0 where
+  pub address : link .address ≡ c .address
+  pub check : link .check ≡ c .check
   pub size : length (c .regs) ≡ 256
 
 -- a chip on a wire: for each transfer to come whether it is cut, and after how many bytes

@@ -1,4 +1,5 @@
-// The model chip of a battery monitor: 256 registers behind a bus address, with check bytes or without. `specs/Chip.antt` says what it does.
+// The model chip of a battery monitor: 256 registers behind a bus address, with check bytes or without.
+// `specs/Chip.antt` says what it does.
 ghost use mathlib.Core.Path.{_≡_};
 ghost use mathlib.Core.Bool.{true, false};
 ghost use mathlib.Core.List.{[], _∷_};
@@ -9,7 +10,8 @@ ghost use lib.ListN.{length, getD};
 ghost use Rattle.frames.specs.Frames.{writeByte};
 ghost use Rattle.frames.specs.Put.{put};
 ghost use Rattle.bus.specs.Transfers.{read, write};
-ghost use Rattle.chip.specs.Chip.{withRegs, fresh, withReg, begun, arrives, stores, agreed, written, shows, answers, respond, respondCut, delivered};
+ghost use Rattle.chip.specs.Chip.{withRegs, fresh, withReg, begun, arrives, stores, agreed, written};
+ghost use Rattle.chip.specs.Chip.{shows, answers, respond, respondCut, delivered};
 use check_byte::check_byte1;
 use check_byte::check_byte2;
 use check_byte::check_byte3;
@@ -176,7 +178,8 @@ impl Chip {
     // A read of as many bytes on the bus as out holds, and whether it is answered.
     pub fn read(self, reg: u8, out: &mut [u8]) -> bool
         ensures { λ r. ⌜ (r ≡ answers self (read (self .address) reg (length (now (out .entry)))))
-            × (now (out .exit) ≡ put (now (out .entry)) 0 (delivered (respond self (read (self .address) reg (length (now (out .entry)))) .answer))) ⌝ }
+            × (now (out .exit) ≡ put (now (out .entry)) 0
+            (delivered (respond self (read (self .address) reg (length (now (out .entry)))) .answer))) ⌝ }
     {
         if !self.is_within(reg, out.len()) {
             return false;

@@ -1,12 +1,12 @@
--- Two outcomes that meet one promise agree: in the answer, the tape's and the log's position, and the log's bytes. Of commands that answer a `Raw`
--- the bus's `write-agree` speaks, whatever the program.
+-- Two outcomes that meet one promise agree: in the answer, the tape's and the log's position, and the log's bytes.
+-- Of commands that answer a `Raw` the bus's `write-agree` speaks, whatever the program.
 -- Assumes nothing.
 use mathlib.Core.Path.{_≡_, refl, sym, ap, _∙_}
 use Prim.Native.Nat.{ℕ}
 use mathlib.Core.List.{List}
 use Rattle.laws.proofs.Inverse.{one-to-one}
 use Rattle.refusals.specs.Refusal.{Answer}
-use Rattle.refusals.proofs.Telling.{answerBack, untold-told}
+use Rattle.refusals.proofs.OneToOne.{answerBack, undone}
 use Rattle.bus.specs.Transfers.{Bus}
 use Rattle.bus.specs.Programs.{Prog, Ran, ran, onTape}
 use Rattle.bus.specs.declared.Cursor.{Cursor}
@@ -38,28 +38,28 @@ agreeing {A} {B} tells back undone p b a a′ at at′ log log′ e e′ =
 
 byte-undone : (a : ByteAnswer) → answerBack B.Byte B.Refused (asByte a) ≡ a
 byte-undone (B.Byte byte) = refl
-byte-undone (B.Refused e) = ap B.Refused (untold-told e)
+byte-undone (B.Refused e) = ap B.Refused (undone e)
 
 pub byte-agree : Agree asByte
 byte-agree = agreeing asByte (answerBack B.Byte B.Refused) byte-undone
 
 stat-undone : (a : StatAnswer) → answerBack S.Status S.Refused (asStat a) ≡ a
 stat-undone (S.Status stat) = refl
-stat-undone (S.Refused e) = ap S.Refused (untold-told e)
+stat-undone (S.Refused e) = ap S.Refused (undone e)
 
 pub stat-agree : Agree asStat
 stat-agree = agreeing asStat (answerBack S.Status S.Refused) stat-undone
 
 flag-undone : (a : FlagAnswer) → answerBack F.Flag F.Refused (asFlag a) ≡ a
 flag-undone (F.Flag flag) = refl
-flag-undone (F.Refused e) = ap F.Refused (untold-told e)
+flag-undone (F.Refused e) = ap F.Refused (undone e)
 
 pub flag-agree : Agree asFlag
 flag-agree = agreeing asFlag (answerBack F.Flag F.Refused) flag-undone
 
 source-undone : (a : SourceAnswer) → answerBack T.Source T.Refused (asSource a) ≡ a
 source-undone (T.Source source) = refl
-source-undone (T.Refused e) = ap T.Refused (untold-told e)
+source-undone (T.Refused e) = ap T.Refused (undone e)
 
 pub source-agree : Agree asSource
 source-agree = agreeing asSource (answerBack T.Source T.Refused) source-undone

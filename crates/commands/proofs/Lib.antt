@@ -1,5 +1,6 @@
 pub mod Agree
 pub mod First
 pub mod Holds
+pub mod Register
 pub mod Source
 pub mod Unwritten

@@ -2,7 +2,7 @@
 -- Assumes nothing.
 use Prim.Native.Nat.{ℕ}
 use mathlib.Core.Bool.{Bool}
-use Rattle.refusals.specs.Refusal.{Answer, value, refused, told}
+use Rattle.refusals.specs.Refusal.{Answer, value, refused, asRefusal}
 use Rattle.units.specs.declared.flags.Stat.{Stat}
 use Rattle.commands.specs.declared.bits.ByteAnswer.{ByteAnswer}
 use Rattle.commands.specs.declared.bits.ByteAnswer.the-variants as B
@@ -16,16 +16,16 @@ use Rattle.commands.specs.declared.control.SourceAnswer.the-variants as 
 
 abbrev pub asByte : ByteAnswer → Answer ℕ
 asByte (B.Byte byte) = value byte
-asByte (B.Refused e) = refused (told e)
+asByte (B.Refused e) = refused (asRefusal e)
 
 abbrev pub asStat : StatAnswer → Answer Stat
 asStat (S.Status stat) = value stat
-asStat (S.Refused e) = refused (told e)
+asStat (S.Refused e) = refused (asRefusal e)
 
 abbrev pub asFlag : FlagAnswer → Answer Bool
 asFlag (F.Flag flag) = value flag
-asFlag (F.Refused e) = refused (told e)
+asFlag (F.Refused e) = refused (asRefusal e)
 
 abbrev pub asSource : SourceAnswer → Answer TemperatureSource
 asSource (T.Source source) = value source
-asSource (T.Refused e) = refused (told e)
+asSource (T.Refused e) = refused (asRefusal e)

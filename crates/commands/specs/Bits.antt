@@ -11,7 +11,7 @@ use Rattle.refusals.specs.Refusal.{Answer, value, refused}
 use Rattle.bus.specs.Fields.{if_then_else_}
 use Rattle.bus.specs.Programs.{Prog, ret, _orLeave_, _>>=_}
 use Rattle.bus.specs.Raw.{Done, readBytes, writeRaw}
-use Rattle.bus.specs.declared.raw.Setup.{Setup}
+use Rattle.bus.specs.declared.raw.Link.{Link}
 
 -- ---- bits of a byte, by a mask
 -- one of them is set
@@ -39,21 +39,21 @@ unfoldable pub switching : ℕ → Bool → ℕ → Option ℕ
 switching mask on byte = if Bool·beq on (holds mask byte) then none else some (switched mask on byte)
 
 -- ---- the programs, by a register
-unfoldable pub readRegister : Setup → ℕ → Prog (Answer ℕ)
+unfoldable pub readRegister : Link → ℕ → Prog (Answer ℕ)
 readRegister s reg = do
   bytes ← readBytes s reg 1 orLeave refused
   ret (value (getD bytes 0 0))
 
-unfoldable pub readAs : {A : Type 0} → (ℕ → A) → Setup → ℕ → Prog (Answer A)
+unfoldable pub readAs : {A : Type 0} → (ℕ → A) → Link → ℕ → Prog (Answer A)
 readAs f s reg = do
   byte ← readRegister s reg orLeave refused
   ret (value (f byte))
 
-unfoldable pub writing : Setup → ℕ → Option ℕ → Prog (Answer Done)
+unfoldable pub writing : Link → ℕ → Option ℕ → Prog (Answer Done)
 writing s reg none = ret (value tt)
 writing s reg (some byte) = writeRaw s reg (byte ∷ [])
 
-unfoldable pub changing : Setup → ℕ → (ℕ → Option ℕ) → Prog (Answer Done)
+unfoldable pub changing : Link → ℕ → (ℕ → Option ℕ) → Prog (Answer Done)
 changing s reg change = do
   byte ← readRegister s reg orLeave refused
   writing s reg (change byte)

@@ -3,14 +3,13 @@
 use Prim.Native.Nat.{ℕ}
 use mathlib.Core.Bool.{Bool}
 use mathlib.Core.List.{[], _∷_}
-use Rattle.refusals.specs.Refusal.{Answer, refused}
+use Rattle.refusals.specs.Refusal.{Answer, refused, nine}
 use Rattle.units.specs.declared.flags.Stat.{Stat}
 use Rattle.units.specs.declared.flags.SysStat.{SysStat}
 use Rattle.bus.specs.Fields.{if_then_else_}
 use Rattle.bus.specs.Programs.{Prog, ret, _orLeave_, _>>=_}
 use Rattle.bus.specs.Raw.{Done, refuses}
-use Rattle.bus.specs.Raw as setup
-use Rattle.bq769x0.specs.Record.{nine, setupOf}
+use Rattle.bus.specs.Raw as link
 use Rattle.bq769x0.specs.Registers.{soundly, writeRaw}
 use Rattle.bq769x0.specs.declared.BQ769x0.{BQ769x0}
 use Rattle.commands.specs.Bits.{holds, cleared, placed, putting, switching, readRegister, readAs, changing}
@@ -24,55 +23,57 @@ abbrev pub enableBalancing : BQ769x0 → ℕ → Prog (Answer Done)
 enableBalancing d cells = writeRaw d 0x01 (cells ∷ [])
 
 abbrev pub balancingState : BQ769x0 → Prog (Answer ℕ)
-balancingState d = soundly d (refused nine) (readRegister (setupOf d) 0x01)
+balancingState d = soundly d (refused nine) (readRegister (d .link) 0x01)
 
 -- ---- status: 00
 abbrev pub statOf : ℕ → Stat
 statOf byte = record { bits = byte }
 
 abbrev pub sysStat : BQ769x0 → Prog (Answer Stat)
-sysStat d = soundly d (refused nine) (readAs statOf (setupOf d) 0x00)
+sysStat d = soundly d (refused nine) (readAs statOf (d .link) 0x00)
 
 -- 18 for bit 6, which is no flag
 abbrev pub sysStatReset : BQ769x0 → SysStat → Prog (Answer Done)
 sysStatReset d flags = soundly d (refused nine) (
     if holds 0b0100_0000 (flags .bits) then ret (refuses 18)
-    else setup.writeRaw (setupOf d) 0x00 (flags .bits ∷ []))
+    else link.writeRaw (d .link) 0x00 (flags .bits ∷ []))
 
 -- ---- switches: 05, bit 1 discharging, bit 0 charging
 abbrev pub discharge : BQ769x0 → Bool → Prog (Answer Done)
-discharge d enable = soundly d (refused nine) (changing (setupOf d) 0x05 (switching 0b0000_0010 enable))
+discharge d enable = soundly d (refused nine) (changing (d .link) 0x05 (switching 0b0000_0010 enable))
 
 abbrev pub charge : BQ769x0 → Bool → Prog (Answer Done)
-charge d enable = soundly d (refused nine) (changing (setupOf d) 0x05 (switching 0b0000_0001 enable))
+charge d enable = soundly d (refused nine) (changing (d .link) 0x05 (switching 0b0000_0001 enable))
 
 abbrev pub isChargeEnabled : BQ769x0 → Prog (Answer Bool)
-isChargeEnabled d = soundly d (refused nine) (readAs (holds 0b0000_0001) (setupOf d) 0x05)
+isChargeEnabled d = soundly d (refused nine) (readAs (holds 0b0000_0001) (d .link) 0x05)
 
 -- ---- ship mode: 04
 abbrev pub shipEnter : BQ769x0 → Prog (Answer Done)
 shipEnter d = soundly d (refused nine) (do
-  _ ← setup.writeRaw (setupOf d) 0x04 (0b0000_0000 ∷ []) orLeave refused
-  _ ← setup.writeRaw (setupOf d) 0x04 (0b0000_0001 ∷ []) orLeave refused
-  setup.writeRaw (setupOf d) 0x04 (0b0000_0010 ∷ []))
+  _ ← link.writeRaw (d .link) 0x04 (0b0000_0000 ∷ []) orLeave refused
+  _ ← link.writeRaw (d .link) 0x04 (0b0000_0001 ∷ []) orLeave refused
+  link.writeRaw (d .link) 0x04 (0b0000_0010 ∷ []))
 
 -- ---- control: 04, bit 4 the converter, bit 3 the thermistor
 abbrev pub enableAdc : BQ769x0 → Bool → Prog (Answer Done)
-enableAdc d enable = soundly d (refused nine) (changing (setupOf d) 0x04 (putting 0b0001_0000 (placed 0b0001_0000 enable)))
+enableAdc d enable =
+    soundly d (refused nine) (changing (d .link) 0x04 (putting 0b0001_0000 (placed 0b0001_0000 enable)))
 
 abbrev pub sourceBits : TemperatureSource → ℕ
 sourceBits T.InternalDie = 0
 sourceBits T.ExternalThermistor = 0b0000_1000
 
 abbrev pub setTemperatureSource : BQ769x0 → TemperatureSource → Prog (Answer Done)
-setTemperatureSource d source = soundly d (refused nine) (changing (setupOf d) 0x04 (putting 0b0000_1000 (sourceBits source)))
+setTemperatureSource d source =
+    soundly d (refused nine) (changing (d .link) 0x04 (putting 0b0000_1000 (sourceBits source)))
 
 -- the bit is cleared, and then tested
 abbrev pub sourceIn : ℕ → TemperatureSource
 sourceIn byte = if holds 0b0000_1000 (cleared 0b0000_1000 byte) then T.ExternalThermistor else T.InternalDie
 
 abbrev pub temperatureSource : BQ769x0 → Prog (Answer TemperatureSource)
-temperatureSource d = soundly d (refused nine) (readAs sourceIn (setupOf d) 0x04)
+temperatureSource d = soundly d (refused nine) (readAs sourceIn (d .link) 0x04)
 
 -- ---- the coulomb counter: 05, bit 6 always, bit 5 once
 abbrev pub modeBits : CoulombCounterMode → ℕ
@@ -81,4 +82,4 @@ modeBits M.OneShot = 0b0010_0000
 modeBits M.Continuous = 0b0100_0000
 
 abbrev pub coulombCounterMode : BQ769x0 → CoulombCounterMode → Prog (Answer Done)
-coulombCounterMode d mode = soundly d (refused nine) (changing (setupOf d) 0x05 (putting 0b0110_0000 (modeBits mode)))
+coulombCounterMode d mode = soundly d (refused nine) (changing (d .link) 0x05 (putting 0b0110_0000 (modeBits mode)))

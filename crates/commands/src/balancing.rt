@@ -1,7 +1,5 @@
 // Balancing of the cells at inputs 1 to 5, register 01.
-ghost use mathlib.Core.Path.{_≡_};
-ghost use Rattle.bus.specs.Transfers.{busOf};
-ghost use Rattle.bus.specs.Programs.{onTape, ran};
+ghost use Rattle.bus.specs.Lent.{does};
 ghost use Rattle.bus.specs.Raw.{asRaw};
 ghost use Rattle.commands.specs.Answers.{asByte};
 ghost use Rattle.commands.specs.Commands.{enableBalancing, balancingState};
@@ -12,16 +10,14 @@ use bus::Cursor;
 use bus::raw::Raw;
 
 pub fn enable_balancing(device: BQ769x0, cells: u8, tape: &[u8], log: &mut [u8], at: Cursor) -> Raw
-    ensures { λ r. ⌜ ran (asRaw (r .answer)) (now (tape .entry)) (now (log .exit)) (r .at)
-        ≡ onTape (enableBalancing device cells) (busOf (now (tape .entry)) (now (log .entry)) at) ⌝ }
+    ensures { λ r. ⌜ does (enableBalancing device cells) tape log at (asRaw (r .answer)) (r .at) ⌝ }
 {
     let set = [cells];
     device.write_raw(0x01, &set, tape, log, at)
 }
 
 pub fn balancing_state(device: BQ769x0, tape: &[u8], log: &mut [u8], at: Cursor) -> ByteRead
-    ensures { λ r. ⌜ ran (asByte (r .answer)) (now (tape .entry)) (now (log .exit)) (r .at)
-        ≡ onTape (balancingState device) (busOf (now (tape .entry)) (now (log .entry)) at) ⌝ }
+    ensures { λ r. ⌜ does (balancingState device) tape log at (asByte (r .answer)) (r .at) ⌝ }
 {
     bits::read_register(device, 0x01, tape, log, at)
 }

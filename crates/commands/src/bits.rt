@@ -1,12 +1,9 @@
 // One register: its byte read, and some of its bits changed. 9 first on a record that is not sound.
 ghost use mathlib.Core.Path.{_≡_};
-ghost use Rattle.bus.specs.Transfers.{busOf};
-ghost use Rattle.bus.specs.Programs.{onTape, ran};
+ghost use Rattle.bus.specs.Lent.{does};
 ghost use Rattle.bus.specs.Raw.{asRaw};
-ghost use Rattle.refusals.specs.Refusal.{refused};
-ghost use Rattle.bq769x0.specs.Record.{nine, setupOf};
+ghost use Rattle.refusals.specs.Refusal.{refused, nine};
 ghost use Rattle.bq769x0.specs.Registers.{soundly};
-ghost use Rattle.bq769x0.specs.Init.{refusalOf};
 ghost use Rattle.commands.specs.Answers.{asByte};
 ghost use Rattle.commands.specs.Bits.{holds, placed, readRegister, putting, changing};
 use bq769x0::BQ769x0;
@@ -39,15 +36,6 @@ pub(crate) fn placed(mask: u8, on: bool) -> u8
     if on { mask } else { 0 }
 }
 
-fn of_raw(answer: RawAnswer) -> ByteAnswer
-    ensures { λ r. ⌜ asByte r ≡ refusalOf (asRaw answer) ⌝ }
-{
-    match answer {
-        RawAnswer::Done => ByteAnswer::Refused(Error::BadDevice),
-        RawAnswer::Refused(e) => ByteAnswer::Refused(e),
-    }
-}
-
 pub(crate) fn read_register(
     device: BQ769x0,
     reg: u8,
@@ -55,8 +43,8 @@ pub(crate) fn read_register(
     log: &mut [u8],
     at: Cursor,
 ) -> ByteRead
-    ensures { λ r. ⌜ ran (asByte (r .answer)) (now (tape .entry)) (now (log .exit)) (r .at)
-        ≡ onTape (soundly device (refused nine) (readRegister (setupOf device) reg)) (busOf (now (tape .entry)) (now (log .entry)) at) ⌝ }
+    ensures { λ r. ⌜ does (soundly device (refused nine) (readRegister (device .link) reg)) tape log at
+        (asByte (r .answer)) (r .at) ⌝ }
 {
     let mut data = [0u8; 1];
     let read = device.read_raw(reg, &mut data, tape, log, at);
@@ -64,7 +52,7 @@ pub(crate) fn read_register(
     let next = read.at;
     let RawAnswer::Done = answer else {
         return ByteRead {
-            answer: of_raw(answer),
+            answer: ByteAnswer::Refused(answer.refusal()),
             at: next,
         };
     };
@@ -84,8 +72,8 @@ pub(crate) fn change_bits(
     log: &mut [u8],
     at: Cursor,
 ) -> Raw
-    ensures { λ r. ⌜ ran (asRaw (r .answer)) (now (tape .entry)) (now (log .exit)) (r .at)
-        ≡ onTape (soundly device (refused nine) (changing (setupOf device) reg (putting mask bits))) (busOf (now (tape .entry)) (now (log .entry)) at) ⌝ }
+    ensures { λ r. ⌜ does (soundly device (refused nine) (changing (device .link) reg (putting mask bits))) tape log at
+        (asRaw (r .answer)) (r .at) ⌝ }
 {
     let mut data = [0u8; 1];
     let read = device.read_raw(reg, &mut data, tape, log, at);
@@ -95,6 +83,6 @@ pub(crate) fn change_bits(
         return Raw { answer, at: next };
     };
     let changed = [data[0] & !mask | bits];
-    let setup = device.setup();
-    setup.write_raw(reg, &changed, tape, log, next)
+    let link = device.link;
+    link.write_raw(reg, &changed, tape, log, next)
 }

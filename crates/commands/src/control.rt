@@ -1,11 +1,11 @@
 // The converter and the source of the temperature, bits 4 and 3 of register 04.
 ghost use mathlib.Core.Path.{_≡_};
-ghost use Rattle.bus.specs.Transfers.{busOf};
-ghost use Rattle.bus.specs.Programs.{onTape, ran};
+ghost use Rattle.bus.specs.Lent.{does};
 ghost use Rattle.bus.specs.Raw.{asRaw};
 ghost use Rattle.commands.specs.Answers.{asSource};
 ghost use Rattle.commands.specs.Bits.{placed};
-ghost use Rattle.commands.specs.Commands.{enableAdc, sourceBits, setTemperatureSource, sourceIn, temperatureSource};
+ghost use Rattle.commands.specs.Commands.{enableAdc, sourceBits, setTemperatureSource};
+ghost use Rattle.commands.specs.Commands.{sourceIn, temperatureSource};
 use crate::bits;
 use crate::bits::ByteAnswer;
 use bq769x0::BQ769x0;
@@ -29,8 +29,7 @@ pub struct SourceRead {
 }
 
 pub fn enable_adc(device: BQ769x0, enable: bool, tape: &[u8], log: &mut [u8], at: Cursor) -> Raw
-    ensures { λ r. ⌜ ran (asRaw (r .answer)) (now (tape .entry)) (now (log .exit)) (r .at)
-        ≡ onTape (enableAdc device enable) (busOf (now (tape .entry)) (now (log .entry)) at) ⌝ }
+    ensures { λ r. ⌜ does (enableAdc device enable) tape log at (asRaw (r .answer)) (r .at) ⌝ }
 {
     let set = bits::placed(0b0001_0000, enable);
     bits::change_bits(device, 0x04, 0b0001_0000, set, tape, log, at)
@@ -43,8 +42,7 @@ pub fn set_temperature_source(
     log: &mut [u8],
     at: Cursor,
 ) -> Raw
-    ensures { λ r. ⌜ ran (asRaw (r .answer)) (now (tape .entry)) (now (log .exit)) (r .at)
-        ≡ onTape (setTemperatureSource device source) (busOf (now (tape .entry)) (now (log .entry)) at) ⌝ }
+    ensures { λ r. ⌜ does (setTemperatureSource device source) tape log at (asRaw (r .answer)) (r .at) ⌝ }
 {
     let set = source_bits(source);
     bits::change_bits(device, 0x04, 0b0000_1000, set, tape, log, at)
@@ -60,8 +58,7 @@ fn source_bits(source: TemperatureSource) -> u8
 }
 
 pub fn temperature_source(device: BQ769x0, tape: &[u8], log: &mut [u8], at: Cursor) -> SourceRead
-    ensures { λ r. ⌜ ran (asSource (r .answer)) (now (tape .entry)) (now (log .exit)) (r .at)
-        ≡ onTape (temperatureSource device) (busOf (now (tape .entry)) (now (log .entry)) at) ⌝ }
+    ensures { λ r. ⌜ does (temperatureSource device) tape log at (asSource (r .answer)) (r .at) ⌝ }
 {
     let read = bits::read_register(device, 0x04, tape, log, at);
     let answer = read.answer;

@@ -1,7 +1,6 @@
 // The coulomb counter's mode, bits 6 and 5 of register 05.
 ghost use mathlib.Core.Path.{_≡_};
-ghost use Rattle.bus.specs.Transfers.{busOf};
-ghost use Rattle.bus.specs.Programs.{onTape, ran};
+ghost use Rattle.bus.specs.Lent.{does};
 ghost use Rattle.bus.specs.Raw.{asRaw};
 ghost use Rattle.commands.specs.Commands.{modeBits, coulombCounterMode};
 use crate::bits;
@@ -22,8 +21,7 @@ pub fn coulomb_counter_mode(
     log: &mut [u8],
     at: Cursor,
 ) -> Raw
-    ensures { λ r. ⌜ ran (asRaw (r .answer)) (now (tape .entry)) (now (log .exit)) (r .at)
-        ≡ onTape (coulombCounterMode device mode) (busOf (now (tape .entry)) (now (log .entry)) at) ⌝ }
+    ensures { λ r. ⌜ does (coulombCounterMode device mode) tape log at (asRaw (r .answer)) (r .at) ⌝ }
 {
     let set = mode_bits(mode);
     bits::change_bits(device, BQ769x0::SYS_CTRL2, 0b0110_0000, set, tape, log, at)

@@ -1,7 +1,5 @@
 // Ship mode, which the chip enters by three writes to register 04.
-ghost use mathlib.Core.Path.{_≡_};
-ghost use Rattle.bus.specs.Transfers.{busOf};
-ghost use Rattle.bus.specs.Programs.{onTape, ran};
+ghost use Rattle.bus.specs.Lent.{does};
 ghost use Rattle.bus.specs.Raw.{asRaw};
 ghost use Rattle.commands.specs.Commands.{shipEnter};
 use bq769x0::BQ769x0;
@@ -10,8 +8,7 @@ use bus::raw::Raw;
 use bus::raw::RawAnswer;
 
 pub fn ship_enter(device: BQ769x0, tape: &[u8], log: &mut [u8], at: Cursor) -> Raw
-    ensures { λ r. ⌜ ran (asRaw (r .answer)) (now (tape .entry)) (now (log .exit)) (r .at)
-        ≡ onTape (shipEnter device) (busOf (now (tape .entry)) (now (log .entry)) at) ⌝ }
+    ensures { λ r. ⌜ does (shipEnter device) tape log at (asRaw (r .answer)) (r .at) ⌝ }
 {
     let none = [0b0000_0000];
     let first = device.write_raw(0x04, &none, tape, log, at);
@@ -20,14 +17,14 @@ pub fn ship_enter(device: BQ769x0, tape: &[u8], log: &mut [u8], at: Cursor) -> R
     let RawAnswer::Done = answer else {
         return Raw { answer, at: next };
     };
-    let setup = device.setup();
+    let link = device.link;
     let shut_b = [0b0000_0001];
-    let second = setup.write_raw(0x04, &shut_b, tape, log, next);
+    let second = link.write_raw(0x04, &shut_b, tape, log, next);
     let answer = second.answer;
     let next = second.at;
     let RawAnswer::Done = answer else {
         return Raw { answer, at: next };
     };
     let shut_a = [0b0000_0010];
-    setup.write_raw(0x04, &shut_a, tape, log, next)
+    link.write_raw(0x04, &shut_a, tape, log, next)
 }

@@ -1,7 +1,5 @@
 // The status register, 00.
-ghost use mathlib.Core.Path.{_≡_};
-ghost use Rattle.bus.specs.Transfers.{busOf};
-ghost use Rattle.bus.specs.Programs.{onTape, ran};
+ghost use Rattle.bus.specs.Lent.{does};
 ghost use Rattle.bus.specs.Raw.{asRaw};
 ghost use Rattle.commands.specs.Answers.{asStat};
 ghost use Rattle.commands.specs.Commands.{sysStat, sysStatReset};
@@ -26,8 +24,7 @@ pub struct StatRead {
 }
 
 pub fn sys_stat(device: BQ769x0, tape: &[u8], log: &mut [u8], at: Cursor) -> StatRead
-    ensures { λ r. ⌜ ran (asStat (r .answer)) (now (tape .entry)) (now (log .exit)) (r .at)
-        ≡ onTape (sysStat device) (busOf (now (tape .entry)) (now (log .entry)) at) ⌝ }
+    ensures { λ r. ⌜ does (sysStat device) tape log at (asStat (r .answer)) (r .at) ⌝ }
 {
     let read = bits::read_register(device, 0x00, tape, log, at);
     let answer = read.answer;
@@ -52,8 +49,7 @@ pub fn sys_stat_reset(
     log: &mut [u8],
     at: Cursor,
 ) -> Raw
-    ensures { λ r. ⌜ ran (asRaw (r .answer)) (now (tape .entry)) (now (log .exit)) (r .at)
-        ≡ onTape (sysStatReset device flags) (busOf (now (tape .entry)) (now (log .entry)) at) ⌝ }
+    ensures { λ r. ⌜ does (sysStatReset device flags) tape log at (asRaw (r .answer)) (r .at) ⌝ }
 {
     if !device.is_sound() {
         return Raw {
@@ -69,6 +65,6 @@ pub fn sys_stat_reset(
         };
     }
     let reset = [byte];
-    let setup = device.setup();
-    setup.write_raw(0x00, &reset, tape, log, at)
+    let link = device.link;
+    link.write_raw(0x00, &reset, tape, log, at)
 }

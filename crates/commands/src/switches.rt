@@ -1,10 +1,8 @@
 // The switches for discharging and charging, bits 1 and 0 of register 05.
 ghost use mathlib.Core.Path.{_≡_};
-ghost use Rattle.refusals.specs.Refusal.{refused};
-ghost use Rattle.bus.specs.Transfers.{busOf};
-ghost use Rattle.bus.specs.Programs.{onTape, ran};
+ghost use Rattle.refusals.specs.Refusal.{refused, nine};
+ghost use Rattle.bus.specs.Lent.{does};
 ghost use Rattle.bus.specs.Raw.{asRaw};
-ghost use Rattle.bq769x0.specs.Record.{nine, setupOf};
 ghost use Rattle.bq769x0.specs.Registers.{soundly};
 ghost use Rattle.commands.specs.Answers.{asFlag};
 ghost use Rattle.commands.specs.Bits.{switched, switching, changing};
@@ -28,22 +26,19 @@ pub struct FlagRead {
 }
 
 pub fn discharge(device: BQ769x0, enable: bool, tape: &[u8], log: &mut [u8], at: Cursor) -> Raw
-    ensures { λ r. ⌜ ran (asRaw (r .answer)) (now (tape .entry)) (now (log .exit)) (r .at)
-        ≡ onTape (discharge device enable) (busOf (now (tape .entry)) (now (log .entry)) at) ⌝ }
+    ensures { λ r. ⌜ does (discharge device enable) tape log at (asRaw (r .answer)) (r .at) ⌝ }
 {
     switch_bit(device, 0b0000_0010, enable, tape, log, at)
 }
 
 pub fn charge(device: BQ769x0, enable: bool, tape: &[u8], log: &mut [u8], at: Cursor) -> Raw
-    ensures { λ r. ⌜ ran (asRaw (r .answer)) (now (tape .entry)) (now (log .exit)) (r .at)
-        ≡ onTape (charge device enable) (busOf (now (tape .entry)) (now (log .entry)) at) ⌝ }
+    ensures { λ r. ⌜ does (charge device enable) tape log at (asRaw (r .answer)) (r .at) ⌝ }
 {
     switch_bit(device, 0b0000_0001, enable, tape, log, at)
 }
 
 pub fn is_charge_enabled(device: BQ769x0, tape: &[u8], log: &mut [u8], at: Cursor) -> FlagRead
-    ensures { λ r. ⌜ ran (asFlag (r .answer)) (now (tape .entry)) (now (log .exit)) (r .at)
-        ≡ onTape (isChargeEnabled device) (busOf (now (tape .entry)) (now (log .entry)) at) ⌝ }
+    ensures { λ r. ⌜ does (isChargeEnabled device) tape log at (asFlag (r .answer)) (r .at) ⌝ }
 {
     let read = bits::read_register(device, BQ769x0::SYS_CTRL2, tape, log, at);
     let answer = read.answer;
@@ -69,8 +64,8 @@ fn switch_bit(
     log: &mut [u8],
     at: Cursor,
 ) -> Raw
-    ensures { λ r. ⌜ ran (asRaw (r .answer)) (now (tape .entry)) (now (log .exit)) (r .at)
-        ≡ onTape (soundly device (refused nine) (changing (setupOf device) 0x05 (switching mask enable))) (busOf (now (tape .entry)) (now (log .entry)) at) ⌝ }
+    ensures { λ r. ⌜ does (soundly device (refused nine) (changing (device .link) 0x05 (switching mask enable)))
+        tape log at (asRaw (r .answer)) (r .at) ⌝ }
 {
     let mut sys_ctrl2 = [0u8; 1];
     let read = device.read_raw(BQ769x0::SYS_CTRL2, &mut sys_ctrl2, tape, log, at);
@@ -84,8 +79,8 @@ fn switch_bit(
         return Raw { answer, at: next };
     }
     let changed = [switched(mask, enable, byte)];
-    let setup = device.setup();
-    setup.write_raw(BQ769x0::SYS_CTRL2, &changed, tape, log, next)
+    let link = device.link;
+    link.write_raw(BQ769x0::SYS_CTRL2, &changed, tape, log, next)
 }
 
 fn switched(mask: u8, enable: bool, byte: u8) -> u8

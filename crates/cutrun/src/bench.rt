@@ -1,11 +1,11 @@
-// The driver's `init` on the model chip, with one transfer cut or none. The chip's answers make up the tape. What is to be answered next is found out by
-// a fault at the tape's end: the transfer that the fault met is the last in the log. The chip's answer then takes the fault's place.
+// The driver's `init` on the model chip, with one transfer cut or none. The chip's answers make up the tape. What is to be answered next is found
+// out by a fault at the tape's end: the transfer that the fault met is the last in the log. The chip's answer then takes the fault's place.
 use crate::tape::Tape;
 use bq769x0::BQ769x0;
-use bq769x0::setting::Init;
+use bq769x0::init::Init;
 use bus::Cursor;
 use chip::Chip;
-use settings::Config;
+use plan::Config;
 
 // No init makes more transfers.
 pub const MOST: usize = 8;

@@ -1,18 +1,19 @@
 // Whether two inits answered the same and left the same record and the same registers.
 use crate::bench::Outcome;
 use bq769x0::BQ769x0;
-use bq769x0::setting::Init;
+use bq769x0::init::Init;
+use bus::raw::Link;
 use chip::Chip;
-use settings::InitAnswer;
-use settings::told::Five;
+use plan::InitAnswer;
+use plan::answer::InitNumbers;
 use units::MilliVolts;
 
-fn same_figures(a: Five, b: Five) -> bool {
+fn same_numbers(a: InitNumbers, b: InitNumbers) -> bool {
     (a.0 == b.0) & (a.1 == b.1) & (a.2 == b.2) & (a.3 == b.3) & (a.4 == b.4)
 }
 
 fn same_answer(a: InitAnswer, b: InitAnswer) -> bool {
-    (a.number() == b.number()) & same_figures(a.figures(), b.figures())
+    (a.number() == b.number()) & same_numbers(a.in_numbers(), b.in_numbers())
 }
 
 fn same_cells(a: [MilliVolts; 15], b: [MilliVolts; 15]) -> bool {
@@ -24,24 +25,24 @@ fn same_cells(a: [MilliVolts; 15], b: [MilliVolts; 15]) -> bool {
     true
 }
 
-fn same_device(a: BQ769x0, b: BQ769x0) -> bool {
-    (a.x == b.x)
-        & (a.dev_address == b.dev_address)
-        & (a.check == b.check)
-        & (a.cell_count == b.cell_count)
+fn same_link(a: Link, b: Link) -> bool {
+    (a.x == b.x) & (a.address == b.address) & (a.check == b.check)
 }
 
 fn same_state(a: BQ769x0, b: BQ769x0) -> bool {
     (a.init_complete == b.init_complete)
-        & (a.adc_gain == b.adc_gain)
-        & (a.adc_offset == b.adc_offset)
+        & (a.cell_count == b.cell_count)
+        & (a.adc.gain == b.adc.gain)
+        & (a.adc.offset == b.adc.offset)
         & (a.shunt.0 == b.shunt.0)
 }
 
 fn same_record(a: BQ769x0, b: BQ769x0) -> bool {
-    let a_cells = a.cells;
-    let b_cells = b.cells;
-    same_device(a, b) & same_state(a, b) & same_cells(a_cells, b_cells)
+    let a_link = a.link;
+    let b_link = b.link;
+    let a_cells = a.readings.cells;
+    let b_cells = b.readings.cells;
+    same_link(a_link, b_link) & same_state(a, b) & same_cells(a_cells, b_cells)
 }
 
 fn same_registers(a: Chip, b: Chip) -> bool {

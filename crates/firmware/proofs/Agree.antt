@@ -1,21 +1,23 @@
--- Two outcomes that meet one promise agree. `init` has the promise of the driver's `init`, of which `init-agree` there speaks, whatever the
--- program; with a cell reading the lent lists agree too; and for C the number, the 36 bytes, the log's bytes and the lists'.
+-- Two outcomes that meet one promise agree. `init` has the promise of the driver's `init`, of which `init-agree` there
+-- speaks, whatever the program; with a cell reading the lent lists agree too; and for C the number, the 36 bytes, the
+-- log's bytes and the lists'.
 -- Assumes nothing.
 use mathlib.Core.Path.{_≡_, sym, ap, _∙_}
 use Prim.Native.Nat.{ℕ}
 use mathlib.Core.List.{List}
 use Rattle.bus.specs.Transfers.{Bus}
 use Rattle.bus.specs.Programs.{Prog, Ran, ran, onTape}
-use Rattle.settings.specs.Plan.{asInit}
-use Rattle.bq769x0.specs.declared.setting.Init.{Init}
-use Rattle.settings.proofs.Agree.{answer-agree}
+use Rattle.plan.specs.Plan.{asInit}
+use Rattle.bq769x0.specs.declared.init.Init.{Init}
+use Rattle.plan.proofs.Agree.{answer-agree}
 use Rattle.firmware.specs.Layout.{Handed, handed}
 use Rattle.firmware.specs.JobCells.{Listed, listed, HandedList}
 use Rattle.firmware.specs.JobWired.{Beside, beside, HandedBoth, handedBoth}
 use Rattle.firmware.specs.CellOn.{Found, found}
 
 -- what all return
-left-agree : (r r′ : Init) → asInit (r .answer) ≡ asInit (r′ .answer) → r .device ≡ r′ .device → r .at ≡ r′ .at → r ≡ r′
+left-agree : (r r′ : Init)
+    → asInit (r .answer) ≡ asInit (r′ .answer) → r .device ≡ r′ .device → r .at ≡ r′ .at → r ≡ r′
 left-agree r r′ told devices places =
     let answers = answer-agree (r .answer) (r′ .answer) told in
     λ i. record { answer = answers i; device = devices i; at = places i }
@@ -27,7 +29,9 @@ pub cells-agree : (p : Prog Listed) (b : Bus) (r r′ : Init) (list list′ log 
     → (r ≡ r′) × (list ≡ list′) × (log ≡ log′)
 cells-agree p b r r′ list list′ log log′ e e′ =
     let same = e ∙ sym e′ in (
-      left-agree r r′ (ap (λ (x : Ran Listed). x .answer .left .answer) same) (ap (λ (x : Ran Listed). x .answer .left .device) same)
+      left-agree r r′
+          (ap (λ (x : Ran Listed). x .answer .left .answer) same)
+          (ap (λ (x : Ran Listed). x .answer .left .device) same)
           (ap (λ (x : Ran Listed). x .bus .at) same),
       ap (λ (x : Ran Listed). x .answer .list) same,
       ap (λ (x : Ran Listed). x .bus .log) same,
@@ -40,8 +44,10 @@ pub wired-agree : (p : Prog Beside) (b : Bus) (r r′ : Init) (inputs inputs′ 
     → (r ≡ r′) × (inputs ≡ inputs′) × (list ≡ list′) × (log ≡ log′)
 wired-agree p b r r′ inputs inputs′ list list′ log log′ e e′ =
     let same = e ∙ sym e′ in (
-      left-agree r r′ (ap (λ (x : Ran Beside). x .answer .listed .left .answer) same)
-          (ap (λ (x : Ran Beside). x .answer .listed .left .device) same) (ap (λ (x : Ran Beside). x .bus .at) same),
+      left-agree r r′
+          (ap (λ (x : Ran Beside). x .answer .listed .left .answer) same)
+          (ap (λ (x : Ran Beside). x .answer .listed .left .device) same)
+          (ap (λ (x : Ran Beside). x .bus .at) same),
       ap (λ (x : Ran Beside). x .answer .inputs) same,
       ap (λ (x : Ran Beside). x .answer .listed .list) same,
       ap (λ (x : Ran Beside). x .bus .log) same,
@@ -68,7 +74,8 @@ list-agree x h h′ list list′ e e′ =
 
 -- `bq769x0_init_wired`
 pub both-agree : (x : HandedBoth) (h h′ : Handed) (inputs inputs′ list list′ : List ℕ)
-    → handedBoth h inputs list ≡ x → handedBoth h′ inputs′ list′ ≡ x → (h ≡ h′) × (inputs ≡ inputs′) × (list ≡ list′)
+    → handedBoth h inputs list ≡ x → handedBoth h′ inputs′ list′ ≡ x
+    → (h ≡ h′) × (inputs ≡ inputs′) × (list ≡ list′)
 both-agree x h h′ inputs inputs′ list list′ e e′ =
     let same = e ∙ sym e′ in (
       ap (λ (y : HandedBoth). y .handed .handed) same,
@@ -77,7 +84,8 @@ both-agree x h h′ inputs inputs′ list list′ e e′ =
     )
 
 -- `bq769x0_cell_on`
-pub found-agree : (x : Found) (n n′ : ℕ) (cell cell′ : List ℕ) → found n cell ≡ x → found n′ cell′ ≡ x → (n ≡ n′) × (cell ≡ cell′)
+pub found-agree : (x : Found) (n n′ : ℕ) (cell cell′ : List ℕ)
+    → found n cell ≡ x → found n′ cell′ ≡ x → (n ≡ n′) × (cell ≡ cell′)
 found-agree x n n′ cell cell′ e e′ =
     let same = e ∙ sym e′ in (
       ap (λ (y : Found). y .number) same,

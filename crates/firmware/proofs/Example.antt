@@ -2,7 +2,7 @@
 -- Assumes nothing.
 use mathlib.Core.Path.{_≡_, refl}
 use Prim.Native.Nat.{ℕ}
-use mathlib.Core.List.{List, [], _∷_, _++_}
+use mathlib.Core.List.{List, [], _∷_}
 use mathlib.Core.Bool.{false}
 use lib.IntN.{pos}
 use lib.ListN.{replicate}
@@ -12,20 +12,22 @@ use Rattle.protection.specs.Steps.{step, mvAcross}
 use Rattle.protection.specs.declared.range.OCDSCDRange.the-variants as R
 use Rattle.frames.specs.Frames.{writeFrame, framed}
 use Rattle.frames.specs.Put.{put}
-use Rattle.settings.specs.Order as order
-use Rattle.settings.specs.Plan.{setFor, planFor}
-use Rattle.settings.specs.Registers.{protectFor}
-use Rattle.settings.specs.Steps.{shuntFor, stepsFor}
-use Rattle.settings.specs.Trips.{tripCodeFor, obtainableOr, withinFor}
+use Rattle.plan.specs.Order as order
+use Rattle.plan.specs.Plan.{setFor, planFor}
+use Rattle.plan.specs.Registers.{protectFor}
+use Rattle.plan.specs.Steps.{shuntFor, stepsFor}
+use Rattle.plan.specs.Trips.{tripCodeFor, obtainableOr, withinFor}
 use Rattle.job.specs.Jobs.{isDevice, codesAt, isJob, jobOf}
 use Rattle.bus.specs.Fields.{field, unfield}
-use Rattle.bus.specs.Transfers.{logField, tapeField, wanted, untape, says, start, busOf, moved, after, answered, outcome}
+use Rattle.bus.specs.Transfers.{logField, tapeField, wanted, untape, says, start, busOf}
+use Rattle.bus.specs.Transfers.{moved, after, answered, outcome}
 use Rattle.bus.specs.Programs.{ran, onTape, bind, proceed, _>>=_}
-use Rattle.bus.specs.Raw.{plainly, plainRead, readRaw, readBytes, wrote, askWrite, send, compared, verified, askBack, writeRaw}
+use Rattle.bus.specs.Raw.{plainly, plainRead, readRaw, readBytes}
+use Rattle.bus.specs.Raw.{wrote, askWrite, send, compared, verified, askBack, writeRaw}
 use Rattle.bq769x0.specs.Record.{deviceFor, fresh, leaves, newFor, isSound, withCalibration, withShunt}
 use Rattle.bq769x0.specs.Registers.{soundly}
 use Rattle.bq769x0.specs.Calibrate.{calibrate}
-use Rattle.bq769x0.specs.Init.{onwardBy, onward, counting, setting, initBy}
+use Rattle.bq769x0.specs.Init.{onwardBy, onward, startCounter, protect, initBy}
 use Rattle.bq769x0.specs.declared.BQ769x0.{BQ769x0}
 use Rattle.firmware.specs.JobInit.{jobInit}
 
@@ -74,5 +76,12 @@ pub example :
     tape
     log
     (record { tape = 32; log = 52 })
-unfolding jobInit jobOf isJob isDevice codesAt deviceFor newFor isSound soundly calibrate onwardBy onward counting setting initBy order._>>=_ setFor planFor protectFor shuntFor stepsFor tripCodeFor obtainableOr withinFor step mvAcross rangeFor codeFor onTape bind _>>=_ proceed readBytes readRaw plainRead plainly wrote askWrite send compared verified askBack writeRaw writeFrame framed field unfield logField tapeField wanted untape says moved after answered outcome put
+unfolding
+    jobInit jobOf isJob isDevice codesAt
+    deviceFor newFor isSound soundly calibrate onwardBy onward startCounter protect initBy
+    order._>>=_ setFor planFor protectFor shuntFor stepsFor tripCodeFor obtainableOr withinFor
+    step mvAcross rangeFor codeFor
+    onTape bind _>>=_ proceed readBytes readRaw plainRead plainly
+    wrote askWrite send compared verified askBack writeRaw writeFrame framed
+    field unfield logField tapeField wanted untape says moved after answered outcome put
 example = refl

@@ -1,36 +1,23 @@
--- Four stores are four bytes in place, and seven numbers put one after the other are the 36 bytes.
+-- Seven numbers put one after the other are the 36 bytes.
 -- Assumes nothing.
 use mathlib.Core.Path.{_≡_, ap, _∙_}
-use mathlib.Core.List.{List, [], _∷_, _++_}
+use mathlib.Core.List.{List, _++_}
 use Prim.Native.Nat.{ℕ, _+_, _≤_}
-use native.Mathlib.Numerals.{add-one, add-two, add-three}
 use native.Mathlib.Omega.{arith}
-use lib.ListN.{length, set}
+use lib.ListN.{length}
 use Rattle.frames.specs.Put.{put}
-use Rattle.frames.proofs.Put.{put-put, put-all, sets-put}
-use Rattle.settings.specs.declared.told.Five.{Five}
-use Rattle.job.specs.Encoding.{four}
+use Rattle.frames.proofs.Put.{put-put, put-all}
+use Rattle.plan.specs.declared.answer.InitNumbers.{InitNumbers}
+use Rattle.numbers.specs.Numbers.{four, eight}
 use Rattle.bus.specs.declared.Cursor.{Cursor}
-use Rattle.firmware.specs.Layout.{eight, laid}
-
-pub four-sets : (l : List ℕ) (at a b c d : ℕ) → at + 4 ≤ length l
-    → set (set (set (set l at a) (at + 1) b) (at + 2) c) (at + 3) d ≡ put l at (a ∷ b ∷ c ∷ d ∷ [])
-four-sets l at a b c d room =
-    let v : List ℕ = a ∷ b ∷ c ∷ d ∷ [] in
-    let r : at + length v ≤ length l = omega arith in
-    rw (add-one, add-two, add-three) (sets-put l at v r)
+use Rattle.firmware.specs.Layout.{laid}
 
 -- one more after what was put
 next : (l v w : List ℕ) (at : ℕ) → at + length v ≤ length l → {m m′ : List ℕ} → m ≡ put l at v
     → m′ ≡ put m (at + length v) w → m′ ≡ put l at (v ++ w)
 next l v w at room e e′ = e′ ∙ ap (λ (x : List ℕ). put x (at + length v) w) e ∙ put-put l at v room w
 
-pub eight-put : (l : List ℕ) (at high low : ℕ) → at + 8 ≤ length l → {m m′ : List ℕ}
-    → m ≡ put l at (four high) → m′ ≡ put m (at + 4) (four low) → m′ ≡ put l at (four high ++ four low)
-unfolding four
-eight-put l at high low room e e′ = next l (four high) (four low) at (omega arith) e e′
-
-module _ (l : List ℕ) (at : Cursor) (f : Five) (size : length l ≡ 36) where
+module _ (l : List ℕ) (at : Cursor) (f : InitNumbers) (size : length l ≡ 36) where
   room : (n : ℕ) → n ≤ 36 → 0 + n ≤ length l
   room n h = rw size (omega arith)
 

@@ -1,4 +1,5 @@
--- What is accepted reports the lower range or the upper, whatever tape and log hold: in bytes 16 to 19 of what C is given stands 0 or 1.
+-- What is accepted reports the lower range or the upper, whatever tape and log hold:
+-- in bytes 16 to 19 of what C is given stands 0 or 1.
 -- Assumes nothing.
 use mathlib.Core.Path.{_≡_}
 use mathlib.Core.Bool.{Bool, true, false, false≢true, not}
@@ -6,24 +7,24 @@ use mathlib.Core.List.{List, map}
 use Prim.Native.Nat.{ℕ, _<_}
 use native.Mathlib.Omega.{arith}
 use lib.ListN.{replicate}
-use Rattle.refusals.specs.Refusal.{Answer, value, refused}
+use Rattle.refusals.specs.Refusal.{Answer, value, refused, nine}
 use Rattle.units.specs.declared.MilliVolts.{MilliVolts}
-use Rattle.settings.specs.Steps.{InMv, stepsFor}
-use Rattle.settings.specs.Plan.{Values}
-use Rattle.settings.specs.Told.{rangeNumber}
-use Rattle.settings.specs.declared.Config.{Config}
-use Rattle.settings.proofs.Never20.{in-a-range}
+use Rattle.plan.specs.Steps.{InMv, stepsFor}
+use Rattle.plan.specs.Plan.{Values}
+use Rattle.plan.specs.InNumbers.{rangeNumber}
+use Rattle.plan.specs.declared.Config.{Config}
+use Rattle.plan.proofs.Never20.{in-a-range}
 use Rattle.job.specs.Jobs.{numberAt}
-use Rattle.job.specs.Encoding.{four}
+use Rattle.numbers.specs.Numbers.{eight, four}
 use Rattle.bus.specs.Fields.{if_then_else_}
 use Rattle.bus.specs.Transfers.{Bus}
 use Rattle.bus.specs.Programs.{Prog, ret, onTape}
 use Rattle.bus.specs.Raw.{Done}
 use Rattle.bus.specs.declared.Cursor.{Cursor}
-use Rattle.bq769x0.specs.Record.{Left, leaving, nine, accepts, isSound}
+use Rattle.bq769x0.specs.Record.{Left, leaving, accepts, isSound}
 use Rattle.bq769x0.specs.Registers.{soundly}
 use Rattle.bq769x0.specs.Calibrate.{calibrate}
-use Rattle.bq769x0.specs.Init.{onward, onwardBy, counting, setting, initBy}
+use Rattle.bq769x0.specs.Init.{onward, onwardBy, startCounter, protect, initBy}
 use Rattle.bq769x0.specs.declared.BQ769x0.{BQ769x0}
 use Rattle.bq769x0.proofs.Always.{always, on-tape, always-after, always-bind, always-call, always-pure}
 use Rattle.measuring.specs.Cells.{cellVoltages}
@@ -32,7 +33,7 @@ use Rattle.firmware.specs.JobInit.{noDevice, jobInit}
 use Rattle.firmware.specs.JobCells.{Listed, unlisted, cellOf, storing, readCells, onlyReady, jobCells, asList}
 use Rattle.firmware.specs.JobWired as by-wiring
 use Rattle.firmware.specs.JobWired.{Beside, readWired, jobWired, asBoth}
-use Rattle.firmware.specs.Layout.{eight, laid, layout, asC}
+use Rattle.firmware.specs.Layout.{laid, layout, asC}
 
 abbrev Ranged : Answer Values → Type 0
 Ranged (value v) = rangeNumber (v .range) < 2
@@ -42,23 +43,26 @@ abbrev InRange : Left Values → Type 0
 InRange left = Ranged (left .answer)
 
 -- ---- `init`
-counting-in : (d : BQ769x0) (values : Values) → rangeNumber (values .range) < 2 → always InRange (counting d values)
-unfolding counting always
-counting-in d values h =
+start-counter-in : (d : BQ769x0) (values : Values) → rangeNumber (values .range) < 2
+    → always InRange (startCounter d values)
+unfolding startCounter always
+start-counter-in d values h =
     always-call InRange (leaving d) _ (λ r. tt) _ λ byte.
     always-call InRange (leaving d) _ (λ r. tt) _ λ done.
     h
 
-setting-in : (config : Config) (steps : InMv) (d : BQ769x0) → always InRange (setting config steps d)
-unfolding setting
-setting-in config steps d =
+protect-in : (config : Config) (steps : InMv) (d : BQ769x0) → always InRange (protect config steps d)
+unfolding protect
+protect-in config steps d =
     always-pure InRange (leaving d) _ (λ r. tt) _ λ plan e.
     always-call InRange (leaving d) _ (λ r. tt) _ λ done.
-    counting-in _ (plan .values) (in-a-range _ _ config _ _ (λ range. rangeNumber range < 2) (omega arith) (omega arith) e)
+    start-counter-in _ (plan .values)
+    (in-a-range _ _ config _ _ (λ range. rangeNumber range < 2) (omega arith) (omega arith) e)
 
-onward-in : (config : Config) (steps : InMv) (d : BQ769x0) (y : Answer Done) → always InRange (onwardBy (setting config steps) d y)
+onward-in : (config : Config) (steps : InMv) (d : BQ769x0) (y : Answer Done)
+    → always InRange (onwardBy (protect config steps) d y)
 unfolding onwardBy always
-onward-in config steps d (value done) = setting-in config steps d
+onward-in config steps d (value done) = protect-in config steps d
 onward-in config steps d (refused r) = tt
 
 init-in : (choose : Config → Answer InMv) (d : BQ769x0) (config : Config) → always InRange (initBy choose d config)
@@ -66,9 +70,11 @@ unfolding initBy soundly onward always
 init-in choose d config =
     by (isSound d) _
     (always-pure InRange (leaving d) _ (λ r. tt) (choose config) λ steps e.
-    always-bind InRange (calibrate d) (onward (setting config steps)) λ left. onward-in config steps (left .device) (left .answer))
+    always-bind InRange (calibrate d) (onward (protect config steps)) λ left.
+    onward-in config steps (left .device) (left .answer))
   where
-    by : (t : Bool) (p : Prog (Left Values)) → always InRange p → always InRange (if not t then ret (leaving d nine) else p)
+    by : (t : Bool) (p : Prog (Left Values)) → always InRange p
+        → always InRange (if not t then ret (leaving d nine) else p)
     by true p h = h
     by false p h = tt
 
@@ -83,8 +89,8 @@ job-in bytes =
 ListedIn : Listed → Type 0
 ListedIn l = Ranged (l .left .answer)
 
-storing-in : (n : ℕ) (cells : List MilliVolts) (list : List ℕ) (values : Values) (d : BQ769x0) (y : Answer Done) → rangeNumber (values .range) < 2
-    → ListedIn (storing n cells list values d y)
+storing-in : (n : ℕ) (cells : List MilliVolts) (list : List ℕ) (values : Values) (d : BQ769x0) (y : Answer Done)
+    → rangeNumber (values .range) < 2 → ListedIn (storing n cells list values d y)
 unfolding ListedIn
 storing-in n cells list values d (value done) h = h
 storing-in n cells list values d (refused r) h = tt
@@ -93,18 +99,22 @@ ready-in : (list : List ℕ) (d : BQ769x0) (y : Answer Values) → Ranged y → 
 unfolding readCells always ListedIn
 ready-in list d (value values) h =
     always-pure ListedIn (unlisted d list) _ (λ r. tt) _ λ room e.
-    always-bind ListedIn (cellVoltages d (replicate 15 0)) _ λ read. storing-in _ (read .device .cells) list values (read .device) (read .answer) h
+    always-bind ListedIn (cellVoltages d (replicate 15 0)) _ λ read.
+    storing-in _ (read .device .readings .cells) list values (read .device) (read .answer) h
 ready-in list d (refused r) h = tt
 
 cells-in : (bytes list : List ℕ) → always ListedIn (jobCells bytes list)
 unfolding jobCells
-cells-in bytes list = always-after ListedIn InRange (jobInit bytes) _ (job-in bytes) λ left h. ready-in list (left .device) (left .answer) h
+cells-in bytes list =
+    always-after ListedIn InRange (jobInit bytes) _ (job-in bytes) λ left h.
+    ready-in list (left .device) (left .answer) h
 
 -- ---- the same by the wiring
 BesideIn : Beside → Type 0
 BesideIn b = ListedIn (b .listed)
 
-wired-ready-in : (inputs list : List ℕ) (d : BQ769x0) (y : Answer Values) → Ranged y → always BesideIn (by-wiring.onlyReady inputs list d y)
+wired-ready-in : (inputs list : List ℕ) (d : BQ769x0) (y : Answer Values) → Ranged y
+    → always BesideIn (by-wiring.onlyReady inputs list d y)
 unfolding readWired always BesideIn ListedIn
 wired-ready-in inputs list d (value values) h =
     always-pure BesideIn (by-wiring.unlisted d inputs list) _ (λ r. tt) _ λ room e.
@@ -115,7 +125,8 @@ wired-ready-in inputs list d (refused r) h = tt
 wired-in : (bytes inputs list : List ℕ) → always BesideIn (jobWired bytes inputs list)
 unfolding jobWired
 wired-in bytes inputs list =
-    always-after BesideIn InRange (jobInit bytes) _ (job-in bytes) λ left h. wired-ready-in inputs list (left .device) (left .answer) h
+    always-after BesideIn InRange (jobInit bytes) _ (job-in bytes) λ left h.
+    wired-ready-in inputs list (left .device) (left .answer) h
 
 -- ---- what C is given
 laid-in : (y : Answer Values) (at : Cursor) → Ranged y → accepts y ≡ true → numberAt (layout y at) 16 < 2
@@ -125,15 +136,20 @@ laid-in (refused r) at h e = absurd (false≢true e)
 
 pub init-range : (bytes : List ℕ) (b : Bus) → accepts (onTape (jobInit bytes) b .answer .answer) ≡ true
     → numberAt (asC (onTape (jobInit bytes) b) .out) 16 < 2
-init-range bytes b = laid-in (onTape (jobInit bytes) b .answer .answer) _ (on-tape InRange (jobInit bytes) (job-in bytes) b)
+init-range bytes b =
+    laid-in (onTape (jobInit bytes) b .answer .answer) _
+    (on-tape InRange (jobInit bytes) (job-in bytes) b)
 
-pub cells-range : (bytes list : List ℕ) (b : Bus) → accepts (onTape (jobCells bytes list) b .answer .left .answer) ≡ true
+pub cells-range : (bytes list : List ℕ) (b : Bus)
+    → accepts (onTape (jobCells bytes list) b .answer .left .answer) ≡ true
     → numberAt (asList (onTape (jobCells bytes list) b) .handed .out) 16 < 2
 unfolding ListedIn
 cells-range bytes list b =
-    laid-in (onTape (jobCells bytes list) b .answer .left .answer) _ (on-tape ListedIn (jobCells bytes list) (cells-in bytes list) b)
+    laid-in (onTape (jobCells bytes list) b .answer .left .answer) _
+    (on-tape ListedIn (jobCells bytes list) (cells-in bytes list) b)
 
-pub wired-range : (bytes inputs list : List ℕ) (b : Bus) → accepts (onTape (jobWired bytes inputs list) b .answer .listed .left .answer) ≡ true
+pub wired-range : (bytes inputs list : List ℕ) (b : Bus)
+    → accepts (onTape (jobWired bytes inputs list) b .answer .listed .left .answer) ≡ true
     → numberAt (asBoth (onTape (jobWired bytes inputs list) b) .handed .handed .out) 16 < 2
 unfolding BesideIn ListedIn
 wired-range bytes inputs list b =

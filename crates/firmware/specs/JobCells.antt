@@ -8,8 +8,8 @@ use lib.ListN.{length, replicate, take}
 use Rattle.refusals.specs.Refusal.{Refusal, Answer, value, refused, refusedIf}
 use Rattle.units.specs.declared.MilliVolts.{MilliVolts}
 use Rattle.frames.specs.Put.{put}
-use Rattle.settings.specs.Plan.{Values}
-use Rattle.job.specs.Encoding.{four}
+use Rattle.plan.specs.Plan.{Values}
+use Rattle.numbers.specs.Numbers.{four}
 use Rattle.bus.specs.Programs.{Prog, ret, Ran, bind, _orLeave_, _>>=_}
 use Rattle.bus.specs.Raw.{Done}
 use Rattle.bq769x0.specs.Record.{Left, leaves}
@@ -58,7 +58,7 @@ unfoldable pub readCells : List ℕ → Values → BQ769x0 → Prog Listed
 readCells list values d = do
   _ ← ret (roomFor (d .«cell_count») list) orLeave unlisted d list
   bind (cellVoltages d (replicate 15 0)) λ (read : Filled).
-      ret (storing (d .«cell_count») (read .device .cells) list values (read .device) (read .answer))
+      ret (storing (d .«cell_count») (read .device .readings .cells) list values (read .device) (read .answer))
 
 abbrev pub onlyReady : List ℕ → BQ769x0 → Answer Values → Prog Listed
 onlyReady list d (value values) = readCells list values d

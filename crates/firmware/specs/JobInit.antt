@@ -4,16 +4,14 @@ use Prim.Native.Nat.{ℕ}
 use mathlib.Core.Bool.{false}
 use mathlib.Core.List.{List}
 use Rattle.refusals.specs.Refusal.{Answer, value, refused}
-use Rattle.settings.specs.Steps.{stepsFor}
-use Rattle.settings.specs.Plan.{Values}
-use Rattle.job.specs.Jobs.{jobOf, asJob}
+use Rattle.plan.specs.Steps.{stepsFor}
+use Rattle.plan.specs.Plan.{Values}
+use Rattle.job.specs.Jobs.{jobOf}
 use Rattle.job.specs.declared.Device.{Device}
-use Rattle.job.specs.declared.JobAnswer.{JobAnswer}
 use Rattle.bus.specs.Programs.{Prog, ret, _orLeave_, _>>=_}
-use Rattle.bq769x0.specs.Record.{Left, leaving, fresh, asMade, newFor}
-use Rattle.bq769x0.specs.Init.{refusalOf, initBy}
+use Rattle.bq769x0.specs.Record.{Left, leaving, fresh, newFor}
+use Rattle.bq769x0.specs.Init.{initBy}
 use Rattle.bq769x0.specs.declared.BQ769x0.{BQ769x0}
-use Rattle.bq769x0.specs.declared.record.NewAnswer.{NewAnswer}
 
 -- no device: one of size 0, on which every call is refused
 abbrev pub noDevice : BQ769x0
@@ -34,10 +32,3 @@ jobInit bytes = do
   job ← ret (jobOf bytes) orLeave leaving noDevice
   device ← ret (deviceMade (job .device)) orLeave leaving noDevice
   initBy stepsFor device (job .config)
-
--- ---- a refusal before the init
-abbrev pub asNoJob : JobAnswer → Answer Values
-asNoJob answer = refusalOf (asJob answer)
-
-abbrev pub asNoDevice : NewAnswer → Answer Values
-asNoDevice answer = refusalOf (asMade answer)

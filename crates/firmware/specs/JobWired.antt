@@ -1,11 +1,11 @@
--- A job set up, and one cell reading by the wiring after it, as a program. Beside the list, of four bytes a cell, the caller lends a byte a cell
--- for the inputs.
+-- A job set up, and one cell reading by the wiring after it, as a program.
+-- Beside the list, of four bytes a cell, the caller lends a byte a cell for the inputs.
 -- Assumes nothing.
 use Prim.Native.Nat.{ℕ}
 use mathlib.Core.List.{List, map}
 use lib.ListN.{replicate}
 use Rattle.refusals.specs.Refusal.{Refusal, Answer, value, refused}
-use Rattle.settings.specs.Plan.{Values}
+use Rattle.plan.specs.Plan.{Values}
 use Rattle.bus.specs.Programs.{Prog, ret, Ran, bind, _orLeave_, _>>=_}
 use Rattle.bq769x0.specs.Record.{Left}
 use Rattle.bq769x0.specs.declared.BQ769x0.{BQ769x0}
@@ -40,7 +40,8 @@ onlyReady inputs list d (value values) = readWired inputs list values d
 onlyReady inputs list d (refused r) = ret (unlisted d inputs list r)
 
 unfoldable pub jobWired : List ℕ → List ℕ → List ℕ → Prog Beside
-jobWired bytes inputs list = bind (jobInit bytes) λ (left : Left Values). onlyReady inputs list (left .device) (left .answer)
+jobWired bytes inputs list =
+    bind (jobInit bytes) λ (left : Left Values). onlyReady inputs list (left .device) (left .answer)
 
 -- ---- what C is given, and its lists
 pub record HandedBoth : Type 0 where

@@ -1,27 +1,24 @@
--- What C is given: a number, and 36 bytes, in which every number has its high byte first: how far the tape is used, and how far the log,
--- in eight bytes each, and then five numbers in four bytes each.
+-- What C is given: a number, and 36 bytes, in which every number has its high byte first:
+-- how far the tape is used, and how far the log, in eight bytes each, and then five numbers in four bytes each.
 -- Assumes nothing.
-use Prim.Native.Nat.{ℕ, _/_, _%_}
+use Prim.Native.Nat.{ℕ}
 use mathlib.Core.List.{List, _++_}
 use Rattle.refusals.specs.Refusal.{Answer, numberOf}
-use Rattle.settings.specs.Plan.{Values}
-use Rattle.settings.specs.Told.{figuresOf}
-use Rattle.settings.specs.declared.told.Five.{Five}
-use Rattle.job.specs.Encoding.{four}
+use Rattle.plan.specs.Plan.{Values}
+use Rattle.plan.specs.InNumbers.{initNumbers}
+use Rattle.plan.specs.declared.answer.InitNumbers.{InitNumbers}
+use Rattle.numbers.specs.Numbers.{four, eight}
 use Rattle.bus.specs.Programs.{Ran}
 use Rattle.bus.specs.declared.Cursor.{Cursor}
 use Rattle.bq769x0.specs.Record.{Left}
 
--- the eight bytes of a number below 2^64
-unfoldable pub eight : ℕ → List ℕ
-eight n = four (n / 4294967296) ++ four (n % 4294967296)
-
-unfoldable pub laid : Cursor → Five → List ℕ
+unfoldable pub laid : Cursor → InitNumbers → List ℕ
 laid at five =
-    eight (at .tape) ++ eight (at .log) ++ four (five .0) ++ four (five .1) ++ four (five .2) ++ four (five .3) ++ four (five .4)
+    eight (at .tape) ++ eight (at .log)
+    ++ four (five .0) ++ four (five .1) ++ four (five .2) ++ four (five .3) ++ four (five .4)
 
 abbrev pub layout : Answer Values → Cursor → List ℕ
-layout answer at = laid at (figuresOf answer)
+layout answer at = laid at (initNumbers answer)
 
 -- the number, the 36 bytes, and the log
 pub record Handed : Type 0 where

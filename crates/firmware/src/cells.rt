@@ -1,20 +1,19 @@
 // One cell reading after an init, by the crate's list.
-ghost use mathlib.Core.Path.{_≡_};
-ghost use Rattle.bus.specs.Transfers.{busOf};
-ghost use Rattle.bus.specs.Programs.{onTape, ran};
-ghost use Rattle.settings.specs.Plan.{asInit, asValues};
+ghost use Rattle.bus.specs.Lent.{does};
+ghost use Rattle.plan.specs.Plan.{asInit, asValues};
 ghost use Rattle.firmware.specs.JobCells.{listed, readCells};
 use crate::list::has_room;
 use crate::list::store_read;
 use bq769x0::BQ769x0;
-use bq769x0::setting::Init;
+use bq769x0::init::Init;
 use bus::Cursor;
 use measuring::cells;
+use plan::CalculatedValues;
+use plan::InitAnswer;
 use refusals::Error;
-use settings::CalculatedValues;
-use settings::InitAnswer;
 
-// The reading of a device that was set up with these values, which are then the answer; a refusal leaves the list as it was.
+// The reading of a device that was set up with these values, which are then the answer;
+// a refusal leaves the list as it was.
 pub(crate) fn read_cells(
     values: CalculatedValues,
     device: BQ769x0,
@@ -23,8 +22,8 @@ pub(crate) fn read_cells(
     log: &mut [u8],
     at: Cursor,
 ) -> Init
-    ensures { λ r. ⌜ ran (listed (asInit (r .answer)) (r .device) (now (list .exit))) (now (tape .entry)) (now (log .exit)) (r .at)
-        ≡ onTape (readCells (now (list .entry)) (asValues values) device) (busOf (now (tape .entry)) (now (log .entry)) at) ⌝ }
+    ensures { λ r. ⌜ does (readCells (now (list .entry)) (asValues values) device) tape log at
+        (listed (asInit (r .answer)) (r .device) (now (list .exit))) (r .at) ⌝ }
 {
     let n = device.cell_count as usize;
     if !has_room(n, list.len()) {

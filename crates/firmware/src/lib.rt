@@ -1,10 +1,11 @@
 // Setting up for C: a job, a tape and a log in, a number and 36 bytes out.
 ghost use mathlib.Core.Path.{_≡_};
-ghost use Rattle.bus.specs.Transfers.{start, busOf};
-ghost use Rattle.bus.specs.Programs.{onTape, ran};
-ghost use Rattle.settings.specs.Plan.{asInit};
+ghost use Rattle.bus.specs.Transfers.{start};
+ghost use Rattle.bus.specs.Programs.{onTape};
+ghost use Rattle.bus.specs.Lent.{lentBus, does};
+ghost use Rattle.plan.specs.Plan.{asInit};
 ghost use Rattle.bq769x0.specs.Record.{leaves};
-ghost use Rattle.firmware.specs.JobInit.{asNoJob, asNoDevice, jobInit};
+ghost use Rattle.firmware.specs.JobInit.{jobInit};
 ghost use Rattle.firmware.specs.Layout.{handed, asC};
 ghost use Rattle.firmware.specs.JobCells.{listed, jobCells, asList};
 ghost use Rattle.firmware.specs.JobWired.{beside, jobWired, handedBoth, asBoth};
@@ -14,12 +15,11 @@ use crate::cells::read_cells;
 use crate::layout::lay_out;
 use crate::wired::read_wired;
 use bq769x0::BQ769x0;
+use bq769x0::init::Init;
 use bq769x0::record::NewAnswer;
-use bq769x0::setting::Init;
 use bus::Cursor;
 use job::JobAnswer;
-use refusals::Error;
-use settings::InitAnswer;
+use plan::InitAnswer;
 use wiring::questions;
 use wiring::questions::CellAnswer;
 
@@ -28,28 +28,10 @@ mod layout;
 mod list;
 mod wired;
 
-fn of_job(answer: JobAnswer) -> InitAnswer
-    ensures { λ r. ⌜ asInit r ≡ asNoJob answer ⌝ }
-{
-    match answer {
-        JobAnswer::Wanted(_) => InitAnswer::Refused(Error::BadDevice),
-        JobAnswer::Refused(e) => InitAnswer::Refused(e),
-    }
-}
-
-fn of_new(answer: NewAnswer) -> InitAnswer
-    ensures { λ r. ⌜ asInit r ≡ asNoDevice answer ⌝ }
-{
-    match answer {
-        NewAnswer::Made => InitAnswer::Refused(Error::BadDevice),
-        NewAnswer::Refused(e) => InitAnswer::Refused(e),
-    }
-}
-
 // 15, then 9, 10, 11, then the init; where no device was made, one of size 0 is left.
 pub fn init(job: &[u8], tape: &[u8], log: &mut [u8]) -> Init
-    ensures { λ r. ⌜ ran (leaves (asInit (r .answer)) (r .device)) (now (tape .entry)) (now (log .exit)) (r .at)
-        ≡ onTape (jobInit (now (job .entry))) (busOf (now (tape .entry)) (now (log .entry)) start) ⌝ }
+    ensures { λ r. ⌜ does (jobInit (now (job .entry))) tape log start
+        (leaves (asInit (r .answer)) (r .device)) (r .at) ⌝ }
 {
     let at = Cursor { tape: 0, log: 0 };
     let parsed = job::parse(job);
@@ -57,7 +39,7 @@ pub fn init(job: &[u8], tape: &[u8], log: &mut [u8]) -> Init
         let none = BQ769x0::new(0, 0, 0, false);
         let device = none.device;
         return Init {
-            answer: of_job(parsed),
+            answer: InitAnswer::Refused(parsed.refusal()),
             device,
             at,
         };
@@ -69,7 +51,7 @@ pub fn init(job: &[u8], tape: &[u8], log: &mut [u8]) -> Init
     let device = made.device;
     let NewAnswer::Made = answer else {
         return Init {
-            answer: of_new(answer),
+            answer: InitAnswer::Refused(answer.refusal()),
             device,
             at,
         };
@@ -81,19 +63,19 @@ pub fn init(job: &[u8], tape: &[u8], log: &mut [u8]) -> Init
 #[no_mangle]
 pub extern "C" fn bq769x0_init(job: &[u8], tape: &[u8], log: &mut [u8], out: &mut [u8; 36]) -> u8
     ensures { λ r. ⌜ handed r (now (out .exit)) (now (log .exit))
-        ≡ asC (onTape (jobInit (now (job .entry))) (busOf (now (tape .entry)) (now (log .entry)) start)) ⌝ }
+        ≡ asC (onTape (jobInit (now (job .entry))) (lentBus tape log start)) ⌝ }
 {
     let done = init(job, tape, log);
     let answer = done.answer;
     let at = done.at;
-    lay_out(out, at, answer.figures());
+    lay_out(out, at, answer.in_numbers());
     answer.number()
 }
 
 // The init of a job, and one cell reading after it.
 pub fn init_cells(job: &[u8], tape: &[u8], log: &mut [u8], list: &mut [u8]) -> Init
-    ensures { λ r. ⌜ ran (listed (asInit (r .answer)) (r .device) (now (list .exit))) (now (tape .entry)) (now (log .exit)) (r .at)
-        ≡ onTape (jobCells (now (job .entry)) (now (list .entry))) (busOf (now (tape .entry)) (now (log .entry)) start) ⌝ }
+    ensures { λ r. ⌜ does (jobCells (now (job .entry)) (now (list .entry))) tape log start
+        (listed (asInit (r .answer)) (r .device) (now (list .exit))) (r .at) ⌝ }
 {
     let done = init(job, tape, log);
     let answer = done.answer;
@@ -115,12 +97,12 @@ pub extern "C" fn bq769x0_init_cells(
     out: &mut [u8; 36],
 ) -> u8
     ensures { λ r. ⌜ record { handed = handed r (now (out .exit)) (now (log .exit)); list = now (list .exit) }
-        ≡ asList (onTape (jobCells (now (job .entry)) (now (list .entry))) (busOf (now (tape .entry)) (now (log .entry)) start)) ⌝ }
+        ≡ asList (onTape (jobCells (now (job .entry)) (now (list .entry))) (lentBus tape log start)) ⌝ }
 {
     let done = init_cells(job, tape, log, list);
     let answer = done.answer;
     let at = done.at;
-    lay_out(out, at, answer.figures());
+    lay_out(out, at, answer.in_numbers());
     answer.number()
 }
 
@@ -132,8 +114,8 @@ pub fn init_wired(
     inputs: &mut [u8],
     list: &mut [u8],
 ) -> Init
-    ensures { λ r. ⌜ ran (beside (asInit (r .answer)) (r .device) (now (inputs .exit)) (now (list .exit))) (now (tape .entry)) (now (log .exit)) (r .at)
-        ≡ onTape (jobWired (now (job .entry)) (now (inputs .entry)) (now (list .entry))) (busOf (now (tape .entry)) (now (log .entry)) start) ⌝ }
+    ensures { λ r. ⌜ does (jobWired (now (job .entry)) (now (inputs .entry)) (now (list .entry))) tape log start
+        (beside (asInit (r .answer)) (r .device) (now (inputs .exit)) (now (list .exit))) (r .at) ⌝ }
 {
     let done = init(job, tape, log);
     let answer = done.answer;
@@ -156,12 +138,13 @@ pub extern "C" fn bq769x0_init_wired(
     out: &mut [u8; 36],
 ) -> u8
     ensures { λ r. ⌜ handedBoth (handed r (now (out .exit)) (now (log .exit))) (now (inputs .exit)) (now (list .exit))
-        ≡ asBoth (onTape (jobWired (now (job .entry)) (now (inputs .entry)) (now (list .entry))) (busOf (now (tape .entry)) (now (log .entry)) start)) ⌝ }
+        ≡ asBoth (onTape (jobWired (now (job .entry)) (now (inputs .entry)) (now (list .entry)))
+        (lentBus tape log start)) ⌝ }
 {
     let done = init_wired(job, tape, log, inputs, list);
     let answer = done.answer;
     let at = done.at;
-    lay_out(out, at, answer.figures());
+    lay_out(out, at, answer.in_numbers());
     answer.number()
 }
 

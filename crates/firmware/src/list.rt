@@ -4,15 +4,14 @@ ghost use mathlib.Core.List.{map};
 ghost use Prim.Native.Nat.{_*_, _≤_, _<_};
 ghost use lib.ListN.{length};
 ghost use Rattle.bus.specs.Raw.{asRaw};
-ghost use Rattle.settings.specs.Plan.{asInit, asValues};
+ghost use Rattle.plan.specs.Plan.{asInit, asValues};
 ghost use Rattle.firmware.specs.JobCells.{hasRoom, listed, cellOf, stored, storing};
 use crate::layout::put4;
-use bq769x0::setting;
-use bq769x0::setting::Init;
+use bq769x0::init::Init;
 use bus::raw::RawAnswer;
 use measuring::cells::Cells;
-use settings::CalculatedValues;
-use settings::InitAnswer;
+use plan::CalculatedValues;
+use plan::InitAnswer;
 
 pub(crate) fn has_room(n: usize, bytes: usize) -> bool
     requires { ⌜ n < 256 ⌝ }
@@ -33,7 +32,8 @@ fn put_numbers(n: usize, numbers: [u32; 15], list: &mut [u8])
     }
 }
 
-// What comes of a reading of n cells that these numbers were lent to: its refusal, or the values, with the numbers in the list.
+// What comes of a reading of n cells that these numbers were lent to: its refusal,
+// or the values, with the numbers in the list.
 pub(crate) fn store_read(
     values: CalculatedValues,
     read: Cells,
@@ -43,14 +43,15 @@ pub(crate) fn store_read(
 ) -> Init
     requires { ⌜ (4 * n ≤ length (now list)) × (n ≤ 15) ⌝ }
     ensures { λ r. ⌜ (listed (asInit (r .answer)) (r .device) (now (list .exit))
-        ≡ storing n (map cellOf numbers) (now (list .entry)) (asValues values) (read .device) (asRaw (read .answer))) × (r .at ≡ read .at) ⌝ }
+        ≡ storing n (map cellOf numbers) (now (list .entry)) (asValues values) (read .device) (asRaw (read .answer)))
+        × (r .at ≡ read .at) ⌝ }
 {
     let answer = read.answer;
     let device = read.device;
     let at = read.at;
     let RawAnswer::Done = answer else {
         return Init {
-            answer: setting::of_raw(answer),
+            answer: InitAnswer::Refused(answer.refusal()),
             device,
             at,
         };

@@ -1,20 +1,19 @@
 // One cell reading after an init, by the datasheet's wiring.
-ghost use mathlib.Core.Path.{_≡_};
-ghost use Rattle.bus.specs.Transfers.{busOf};
-ghost use Rattle.bus.specs.Programs.{onTape, ran};
-ghost use Rattle.settings.specs.Plan.{asInit, asValues};
+ghost use Rattle.bus.specs.Lent.{does};
+ghost use Rattle.plan.specs.Plan.{asInit, asValues};
 ghost use Rattle.firmware.specs.JobWired.{beside, readWired};
 use crate::list::has_room;
 use crate::list::store_read;
 use bq769x0::BQ769x0;
-use bq769x0::setting::Init;
+use bq769x0::init::Init;
 use bus::Cursor;
 use measuring::wired;
+use plan::CalculatedValues;
+use plan::InitAnswer;
 use refusals::Error;
-use settings::CalculatedValues;
-use settings::InitAnswer;
 
-// The reading of a device that was set up with these values, which are then the answer; a refusal leaves both lists as they were.
+// The reading of a device that was set up with these values, which are then the answer;
+// a refusal leaves both lists as they were.
 pub(crate) fn read_wired(
     values: CalculatedValues,
     device: BQ769x0,
@@ -24,8 +23,8 @@ pub(crate) fn read_wired(
     log: &mut [u8],
     at: Cursor,
 ) -> Init
-    ensures { λ r. ⌜ ran (beside (asInit (r .answer)) (r .device) (now (inputs .exit)) (now (list .exit))) (now (tape .entry)) (now (log .exit)) (r .at)
-        ≡ onTape (readWired (now (inputs .entry)) (now (list .entry)) (asValues values) device) (busOf (now (tape .entry)) (now (log .entry)) at) ⌝ }
+    ensures { λ r. ⌜ does (readWired (now (inputs .entry)) (now (list .entry)) (asValues values) device) tape log at
+        (beside (asInit (r .answer)) (r .device) (now (inputs .exit)) (now (list .exit))) (r .at) ⌝ }
 {
     let n = device.cell_count as usize;
     if !has_room(n, list.len()) {

@@ -67,7 +67,9 @@ module _ (l : List ℕ) (at : ℕ) (v : List ℕ) (room : at + length v ≤ leng
   -- one after the other is both at once
   pub put-put : (w : List ℕ) → put (put l at v) (at + length v) w ≡ put l at (v ++ w)
   unfolding put
-  put-put w = ap₂ (λ (front back : List ℕ). front ++ w ++ back) take-put (drop-put (length w)) ∙ rw (length-append v w, append-assoc (take at l) v w, add-assoc)
+  put-put w =
+      ap₂ (λ (front back : List ℕ). front ++ w ++ back) take-put (drop-put (length w))
+      ∙ rw (length-append v w, append-assoc (take at l) v w, add-assoc)
 
   -- over the same place the later one stays, if it is no shorter
   pub put-over : (w : List ℕ) → length v ≤ length w → put (put l at v) at w ≡ put l at w

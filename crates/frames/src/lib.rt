@@ -14,7 +14,8 @@ use check_byte::check_byte3;
 // The data after the register, each byte with its check byte.
 fn put_checked(address: u8, reg: u8, data: &[u8], out: &mut [u8])
     requires { ⌜ 2 * length (now «data») < length (now out) ⌝ }
-    ensures { λ _. ⌜ now (out .exit) ≡ put (now (out .entry)) 1 (checked (writeByte address ∷ reg ∷ []) (now («data» .entry))) ⌝ }
+    ensures { λ _. ⌜ now (out .exit)
+        ≡ put (now (out .entry)) 1 (checked (writeByte address ∷ reg ∷ []) (now («data» .entry))) ⌝ }
 {
     if data.len() == 0 {
         return;
@@ -60,8 +61,8 @@ pub fn write_frame(check: bool, address: u8, reg: u8, data: &[u8], out: &mut [u8
     }
 }
 
-// Whether each byte of a read has its check byte, and the right one. The longest frame, of 30 data bytes, is counted by a constant, here and below,
-// so that the compiler unrolls the loop.
+// Whether each byte of a read has its check byte, and the right one. The longest frame, of 30 data bytes, is counted by a
+// constant, here and below, so that the compiler unrolls the loop.
 pub fn right_checks(address: u8, frame: &[u8]) -> bool
     ensures { λ r. ⌜ r ≡ right (readByte address ∷ []) (now (frame .entry)) ⌝ }
 {
@@ -90,7 +91,8 @@ fn right_each(address: u8, frame: &[u8], n: usize) -> bool
 
 // The data of a read with check bytes, as far as the frame and data go.
 pub fn carried(frame: &[u8], data: &mut [u8])
-    ensures { λ _. ⌜ now («data» .exit) ≡ put (now («data» .entry)) 0 (take (length (now («data» .entry))) (dataOf (now (frame .entry)))) ⌝ }
+    ensures { λ _. ⌜ now («data» .exit)
+        ≡ put (now («data» .entry)) 0 (take (length (now («data» .entry))) (dataOf (now (frame .entry)))) ⌝ }
 {
     let mut n = frame.len() - frame.len() / 2;
     if data.len() < n {
@@ -107,7 +109,8 @@ pub fn carried(frame: &[u8], data: &mut [u8])
 fn carry(frame: &[u8], data: &mut [u8], n: usize)
     requires { ⌜ (2 * n ≤ length (now frame) + 1) × (n ≤ length (now «data»)) ⌝ }
     requires { ⌜ (length (now «data») ≤ n) ⊎ (length (now frame) ≤ 2 * n) ⌝ }
-    ensures { λ _. ⌜ now («data» .exit) ≡ put (now («data» .entry)) 0 (take (length (now («data» .entry))) (dataOf (now (frame .entry)))) ⌝ }
+    ensures { λ _. ⌜ now («data» .exit)
+        ≡ put (now («data» .entry)) 0 (take (length (now («data» .entry))) (dataOf (now (frame .entry)))) ⌝ }
 {
     let mut i = 0;
     while i < n {

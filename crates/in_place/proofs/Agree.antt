@@ -1,16 +1,17 @@
--- Two outcomes that meet one promise agree: in what is returned, the record after, the log's bytes and the caller's lists. Each is that of the function by value, with the record apart.
+-- Two outcomes that meet one promise agree: in what is returned, the record after, the log's bytes and the caller's lists.
+-- Each is that of the function by value, with the record apart.
 -- Assumes nothing.
 use mathlib.Core.Path.{_≡_, ap}
 use Prim.Native.Nat.{ℕ}
 use mathlib.Core.List.{List}
-use Rattle.settings.specs.Plan.{Values, asInit}
+use Rattle.plan.specs.Plan.{Values, asInit}
 use Rattle.bus.specs.Transfers.{Bus}
 use Rattle.bus.specs.Programs.{Prog, ran, onTape}
 use Rattle.bus.specs.Raw.{asRaw}
 use Rattle.bus.specs.declared.raw.Raw.{Raw}
 use Rattle.bq769x0.specs.Record.{Left, leaves}
 use Rattle.bq769x0.specs.declared.BQ769x0.{BQ769x0}
-use Rattle.bq769x0.specs.declared.setting.Init.{Init}
+use Rattle.bq769x0.specs.declared.init.Init.{Init}
 use Rattle.bq769x0.proofs.Agree as by-value
 use Rattle.measuring.specs.Cells.{Filled, filled}
 use Rattle.measuring.specs.Wired.{Shown, shown}

@@ -1,2 +1,5 @@
 pub mod Agree
 mod Back
+mod Read
+mod Steps
+mod Ways

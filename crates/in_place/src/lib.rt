@@ -1,9 +1,8 @@
-// `init` and both readings of the cells on a record that is lent, and changed in place: each is the function by value, and the record written back.
-ghost use mathlib.Core.Path.{_≡_};
-ghost use Rattle.settings.specs.Steps.{stepsFor};
-ghost use Rattle.settings.specs.Plan.{asInit};
-ghost use Rattle.bus.specs.Transfers.{busOf};
-ghost use Rattle.bus.specs.Programs.{onTape, ran};
+// `init` and both readings of the cells on a record that is lent, and changed in place: each is the function by value,
+// and the record written back.
+ghost use Rattle.plan.specs.Steps.{stepsFor};
+ghost use Rattle.plan.specs.Plan.{asInit};
+ghost use Rattle.bus.specs.Lent.{does};
 ghost use Rattle.bus.specs.Raw.{asRaw};
 ghost use Rattle.bq769x0.specs.Record.{leaves};
 ghost use Rattle.bq769x0.specs.Init.{initBy};
@@ -14,8 +13,8 @@ use bus::Cursor;
 use bus::raw::Raw;
 use measuring::cells;
 use measuring::wired;
-use settings::Config;
-use settings::InitAnswer;
+use plan::Config;
+use plan::InitAnswer;
 
 // What is left to answer beside the record.
 pub struct Answered {
@@ -30,8 +29,8 @@ pub fn init(
     log: &mut [u8],
     at: Cursor,
 ) -> Answered
-    ensures { λ r. ⌜ ran (leaves (asInit (r .answer)) (now (device .exit))) (now (tape .entry)) (now (log .exit)) (r .at)
-        ≡ onTape (initBy stepsFor (now (device .entry)) config) (busOf (now (tape .entry)) (now (log .entry)) at) ⌝ }
+    ensures { λ r. ⌜ does (initBy stepsFor (now (device .entry)) config) tape log at
+        (leaves (asInit (r .answer)) (now (device .exit))) (r .at) ⌝ }
 {
     let held = *device;
     let left = held.init(config, tape, log, at);
@@ -49,8 +48,8 @@ pub fn cell_voltages(
     log: &mut [u8],
     at: Cursor,
 ) -> Raw
-    ensures { λ r. ⌜ ran (filled (asRaw (r .answer)) (now (device .exit)) (now (list .exit))) (now (tape .entry)) (now (log .exit)) (r .at)
-        ≡ onTape (cellVoltages (now (device .entry)) (now (list .entry))) (busOf (now (tape .entry)) (now (log .entry)) at) ⌝ }
+    ensures { λ r. ⌜ does (cellVoltages (now (device .entry)) (now (list .entry))) tape log at
+        (filled (asRaw (r .answer)) (now (device .exit)) (now (list .exit))) (r .at) ⌝ }
 {
     let held = *device;
     let left = cells::cell_voltages(held, list, tape, log, at);
@@ -69,8 +68,8 @@ pub fn wired(
     log: &mut [u8],
     at: Cursor,
 ) -> Raw
-    ensures { λ r. ⌜ ran (shown (asRaw (r .answer)) (now (device .exit)) (now (inputs .exit)) (now (list .exit))) (now (tape .entry)) (now (log .exit)) (r .at)
-        ≡ onTape (wired (now (device .entry)) (now (inputs .entry)) (now (list .entry))) (busOf (now (tape .entry)) (now (log .entry)) at) ⌝ }
+    ensures { λ r. ⌜ does (wired (now (device .entry)) (now (inputs .entry)) (now (list .entry))) tape log at
+        (shown (asRaw (r .answer)) (now (device .exit)) (now (inputs .exit)) (now (list .exit))) (r .at) ⌝ }
 {
     let left = wired::wired(*device, inputs, list, tape, log, at);
     *device = left.device;

@@ -12,20 +12,18 @@ use lib.Seq.{drop-cons}
 use lib.Dec.{eqb, ltb, eqb→eq}
 use borrow.Author.Tests.{le-leb}
 use Rattle.laws.proofs.Tests.{below}
-use Rattle.signed.specs.Numbers.{word}
+use Rattle.numbers.specs.Numbers.{word, four}
+use Rattle.numbers.proofs.Bytes.{word4-four, four-word4}
 use Rattle.refusals.specs.Refusal.{value, refused, no}
-use Rattle.settings.proofs.Values.{refused-not, same-value}
+use Rattle.plan.proofs.Values.{refused-not, same-value}
 use Rattle.job.specs.Jobs.{byteAt, numberAt, isDevice, codesAt, isJob, deviceOf, configOf, deviceFor, jobOf}
-use Rattle.job.specs.Encoding.{four, zeroOrOne, deviceValue, configValue, field, fieldsOf}
+use Rattle.job.specs.Encoding.{zeroOrOne, deviceValue, configValue, field, fieldsOf}
 use Rattle.job.specs.declared.Device.{Device}
 use Rattle.job.specs.declared.Job.{Job}
 use Rattle.job.proofs.Codes.{scd-coded, ocd-coded, uv-coded, ov-coded}
 use Rattle.job.proofs.Tested.{Field, Tested, device-tested, tested}
 
 -- ---- written out, then read
-number-four : (n : ℕ) → word (n / 16777216) (n / 65536 % 256) * 65536 + word (n / 256 % 256) (n % 256) ≡ n
-number-four n = omega arith
-
 check-read : (b : Bool) → eqb (zeroOrOne b) 1 ≡ b
 check-read false = refl
 check-read true = refl
@@ -71,11 +69,11 @@ module _ (j : Job) (tape : List ℕ) where
   config-read =
       let c = j .config in
       rw (
-        number-four (c .shunt .0),
-        number-four (c .«scd_threshold» .0),
-        number-four (c .«ocd_threshold» .0),
-        number-four (c .«uv_threshold» .0),
-        number-four (c .«ov_threshold» .0),
+        word4-four (c .shunt .0),
+        word4-four (c .«scd_threshold» .0),
+        word4-four (c .«ocd_threshold» .0),
+        word4-four (c .«uv_threshold» .0),
+        word4-four (c .«ov_threshold» .0),
         scd-coded .found (c .«scd_delay»),
         ocd-coded .found (c .«ocd_delay»),
         uv-coded .found (c .«uv_delay»),
@@ -105,16 +103,6 @@ from-drop l i (suc n) h =
     drop-cons l i 0 here
     ∙ ap (λ (r : List ℕ). byteAt l i ∷ r) (from-drop l (suc i) n rest ∙ ap (λ (k : ℕ). from l (suc i) n ++ drop k l) end)
 
-four-number : (a b c d : ℕ) → b < 256 → c < 256 → d < 256 → four (word a b * 65536 + word c d) ≡ a ∷ b ∷ c ∷ d ∷ []
-unfolding four
-four-number a b c d hb hc hd =
-    let n = word a b * 65536 + word c d in
-    let ea : n / 16777216 ≡ a = omega arith in
-    let eb : n / 65536 % 256 ≡ b = omega arith in
-    let ec : n / 256 % 256 ≡ c = omega arith in
-    let ed : n % 256 ≡ d = omega arith in
-    rw (ea, eb, ec, ed)
-
 check-written : (n : ℕ) → n < 2 → zeroOrOne (eqb n 1) ≡ n
 check-written n h = eqb→eq _ _ (below 2 (λ n. eqb (zeroOrOne (eqb n 1)) n) tt n h)
 
@@ -123,7 +111,7 @@ module _ (bytes : List ℕ) (small : (i : ℕ) → byteAt bytes i < 256) where
   found = record { device = deviceOf bytes; config = configOf bytes }
 
   four-at : (i : ℕ) → four (numberAt bytes i) ≡ byteAt bytes i ∷ byteAt bytes (i + 1) ∷ byteAt bytes (i + 2) ∷ byteAt bytes (i + 3) ∷ []
-  four-at i = four-number _ _ _ _ (small (i + 1)) (small (i + 2)) (small (i + 3))
+  four-at i = four-word4 _ _ _ _ (small (i + 1)) (small (i + 2)) (small (i + 3))
 
   -- a length of less than 256 is a zero byte and itself
   high : (i n : ℕ) → word (byteAt bytes i) (byteAt bytes (i + 1)) ≡ n → n < 256 → byteAt bytes i ≡ 0

@@ -11,7 +11,8 @@ use Rattle.protection.specs.declared.delays.UVDelay.the-variants as U
 use Rattle.protection.specs.declared.delays.OVDelay.the-variants as W
 use Rattle.refusals.specs.Refusal.{value, refused, no}
 use Rattle.job.specs.Jobs.{isDevice, codesAt, isJob, jobOf}
-use Rattle.job.specs.Encoding.{four, fieldsOf}
+use Rattle.numbers.specs.Numbers.{four}
+use Rattle.job.specs.Encoding.{fieldsOf}
 use Rattle.job.specs.declared.Job.{Job}
 
 abbrev bytes : List ℕ

@@ -7,7 +7,7 @@ use native.Mathlib.Omega.{arith}
 use mathlib.Core.List.{List}
 use lib.ListN.{length}
 use borrow.Author.Tests.{ltb-true, leb-true, eqb-true}
-use Rattle.signed.specs.Numbers.{word}
+use Rattle.numbers.specs.Numbers.{word}
 use Rattle.job.specs.Jobs.{byteAt, isField, isDevice, codesAt, isConfig, isJob, ListedAt}
 
 -- the tag and the length of a field at byte i

@@ -4,17 +4,14 @@ use Prim.Native.Nat.{ℕ, _/_, _%_}
 use mathlib.Core.Bool.{Bool, true, false}
 use mathlib.Core.List.{List, [], _∷_, _++_}
 use lib.ListN.{length}
+use Rattle.numbers.specs.Numbers.{four}
 use Rattle.protection.specs.Delays.{scdCode, ocdCode, uvCode, ovCode}
-use Rattle.settings.specs.declared.Config.{Config}
+use Rattle.plan.specs.declared.Config.{Config}
 use Rattle.job.specs.declared.Device.{Device}
 use Rattle.job.specs.declared.Job.{Job}
 
 abbrev pub field : ℕ → List ℕ → List ℕ
 field tag value = tag ∷ length value / 256 ∷ length value % 256 ∷ value
-
--- the four bytes of a number below 2^32, high first
-unfoldable pub four : ℕ → List ℕ
-four n = n / 16777216 ∷ n / 65536 % 256 ∷ n / 256 % 256 ∷ n % 256 ∷ []
 
 abbrev pub zeroOrOne : Bool → ℕ
 zeroOrOne false = 0

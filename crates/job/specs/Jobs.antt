@@ -5,9 +5,9 @@ use mathlib.Core.Bool.{Bool, cond, _&&_}
 use mathlib.Core.List.{List, []}
 use lib.ListN.{length, getD}
 use lib.Dec.{eqb, leb, ltb}
-use Rattle.signed.specs.Numbers.{word}
-use Rattle.refusals.specs.Refusal.{Answer, value, refused, no, told}
-use Rattle.settings.specs.declared.Config.{Config}
+use Rattle.numbers.specs.Numbers.{word, word4}
+use Rattle.refusals.specs.Refusal.{Answer, value, refused, no, asRefusal}
+use Rattle.plan.specs.declared.Config.{Config}
 use Rattle.job.specs.Delays.{scdDelays, ocdDelays, uvDelays, ovDelays, scdAt, ocdAt, uvAt, ovAt}
 use Rattle.job.specs.declared.Device.{Device}
 use Rattle.job.specs.declared.Job.{Job}
@@ -23,8 +23,7 @@ byteAt bytes i = getD bytes i 0
 
 -- four bytes, high first
 abbrev pub numberAt : List ℕ → ℕ → ℕ
-numberAt bytes i =
-    word (byteAt bytes i) (byteAt bytes (i + 1)) * 65536 + word (byteAt bytes (i + 2)) (byteAt bytes (i + 3))
+numberAt bytes i = word4 (byteAt bytes i) (byteAt bytes (i + 1)) (byteAt bytes (i + 2)) (byteAt bytes (i + 3))
 
 -- at byte i stands a field: its tag, and its length in two bytes
 abbrev pub isField : List ℕ → ℕ → ℕ → ℕ → Bool
@@ -87,15 +86,15 @@ jobOf bytes = cond (isJob bytes) (value (record { device = deviceOf bytes; confi
 
 abbrev pub asDevice : DeviceAnswer → Answer Device
 asDevice (D.Wanted device) = value device
-asDevice (D.Refused e) = refused (told e)
+asDevice (D.Refused e) = refused (asRefusal e)
 
 abbrev pub asConfig : ConfigAnswer → Answer Config
 asConfig (C.Wanted config) = value config
-asConfig (C.Refused e) = refused (told e)
+asConfig (C.Refused e) = refused (asRefusal e)
 
 abbrev pub asJob : JobAnswer → Answer Job
 asJob (J.Wanted job) = value job
-asJob (J.Refused e) = refused (told e)
+asJob (J.Refused e) = refused (asRefusal e)
 
 -- what the code asks of bytes before it takes a configuration from byte i on: that it is whole, and that each code is in its list
 abbrev pub ListedAt : List ℕ → ℕ → Type 0

@@ -2,14 +2,16 @@
 ghost use mathlib.Core.Path.{_≡_};
 ghost use Prim.Native.Nat.{_+_, _≤_, _<_};
 ghost use lib.ListN.{length};
-ghost use Rattle.job.specs.Jobs.{numberAt, isField, isDevice, codesAt, isConfig, isJob, ListedAt, deviceOf, configAt, deviceFor, asDevice, configFor, asConfig, jobOf, asJob};
+ghost use Rattle.job.specs.Jobs.{numberAt, isField, isDevice, codesAt, isConfig, isJob, ListedAt, deviceOf, configAt, deviceFor};
+ghost use Rattle.job.specs.Jobs.{asDevice, configFor, asConfig, jobOf, asJob};
+ghost use Rattle.refusals.specs.Refusal.{asRefusal, refusalIn};
 ghost use Rattle.job.specs.Delays.{scdAt, ocdAt, uvAt, ovAt};
+use plan::Config;
 use protection::delays::OCDDelay;
 use protection::delays::OVDelay;
 use protection::delays::SCDDelay;
 use protection::delays::UVDelay;
 use refusals::Error;
-use settings::Config;
 use units::Amperes;
 use units::MicroOhms;
 use units::MilliVolts;
@@ -41,6 +43,18 @@ pub enum ConfigAnswer {
 pub enum JobAnswer {
     Wanted(Job),
     Refused(Error),
+}
+
+impl JobAnswer {
+    // Asked where it refuses.
+    pub fn refusal(self) -> Error
+        ensures { λ r. ⌜ asRefusal r ≡ refusalIn (asJob self) ⌝ }
+    {
+        match self {
+            JobAnswer::Wanted(_) => Error::BadDevice,
+            JobAnswer::Refused(e) => e,
+        }
+    }
 }
 
 // By their codes from 0.
@@ -94,14 +108,11 @@ fn ov_delay(code: u8) -> OVDelay
     OV_DELAYS[code as usize]
 }
 
-// Four bytes, high first.
-fn be_u32(job: &[u8], at: usize) -> u32
+fn number_at(job: &[u8], at: usize) -> u32
     requires { ⌜ at + 4 ≤ length (now job) ⌝ }
     ensures { λ r. ⌜ r ≡ numberAt (now (job .entry)) at ⌝ }
 {
-    let high = signed::be_u16(job[at], job[at + 1]);
-    let low = signed::be_u16(job[at + 2], job[at + 3]);
-    high as u32 * 65536 + low as u32
+    numbers::be_u32(job[at], job[at + 1], job[at + 2], job[at + 3])
 }
 
 // At `at` stands a field of this tag and length.
@@ -109,7 +120,7 @@ fn is_field(job: &[u8], at: usize, tag: u8, len: u16) -> bool
     requires { ⌜ at + 3 ≤ length (now job) ⌝ }
     ensures { λ r. ⌜ r ≡ isField (now (job .entry)) at tag len ⌝ }
 {
-    let said = signed::be_u16(job[at + 1], job[at + 2]);
+    let said = numbers::be_u16(job[at + 1], job[at + 2]);
     (job[at] == tag) & (said == len)
 }
 
@@ -166,15 +177,15 @@ fn config_of(job: &[u8], at: usize) -> Config
     ensures { λ r. ⌜ r ≡ configAt (now (job .entry)) at ⌝ }
 {
     Config {
-        shunt: MicroOhms(be_u32(job, at)),
+        shunt: MicroOhms(number_at(job, at)),
         scd_delay: scd_delay(job[at + 20]),
-        scd_threshold: Amperes(be_u32(job, at + 4)),
+        scd_threshold: Amperes(number_at(job, at + 4)),
         ocd_delay: ocd_delay(job[at + 21]),
-        ocd_threshold: Amperes(be_u32(job, at + 8)),
+        ocd_threshold: Amperes(number_at(job, at + 8)),
         uv_delay: uv_delay(job[at + 22]),
-        uv_threshold: MilliVolts(be_u32(job, at + 12)),
+        uv_threshold: MilliVolts(number_at(job, at + 12)),
         ov_delay: ov_delay(job[at + 23]),
-        ov_threshold: MilliVolts(be_u32(job, at + 16)),
+        ov_threshold: MilliVolts(number_at(job, at + 16)),
     }
 }
 

@@ -1,4 +1,5 @@
--- Two outcomes that meet one promise agree: in the answer, the record, the tape's and the log's position, the log's bytes and the caller's lists.
+-- Two outcomes that meet one promise agree: in the answer, the record, the tape's and the log's position, the log's
+-- bytes and the caller's lists.
 -- Assumes nothing.
 use mathlib.Core.Path.{_≡_, refl, sym, ap, _∙_}
 use Prim.Native.Nat.{ℕ}
@@ -6,7 +7,7 @@ use mathlib.Core.List.{List}
 use lib.IntN.{ℤ}
 use Rattle.laws.proofs.Inverse.{one-to-one}
 use Rattle.refusals.specs.Refusal.{Answer}
-use Rattle.refusals.proofs.Telling.{answerBack, untold-told}
+use Rattle.refusals.proofs.OneToOne.{answerBack, undone}
 use Rattle.adc.specs.Conversion.{asCurrent}
 use Rattle.adc.proofs.Agree as adc
 use Rattle.bus.specs.Transfers.{Bus}
@@ -29,7 +30,11 @@ use Rattle.measuring.specs.declared.temperature.TemperatureAnswer.the-va
 use Rattle.measuring.specs.declared.temperature.TemperatureRead.{TemperatureRead}
 
 -- what both calls for the cells return
-left-agree : (r r′ : Cells) → asRaw (r .answer) ≡ asRaw (r′ .answer) → r .device ≡ r′ .device → r .at ≡ r′ .at → r ≡ r′
+left-agree : (r r′ : Cells)
+    → asRaw (r .answer) ≡ asRaw (r′ .answer)
+    → r .device ≡ r′ .device
+    → r .at ≡ r′ .at
+    → r ≡ r′
 left-agree r r′ told devices places =
     let answers = raw-agree (r .answer) (r′ .answer) told in
     λ i. record { answer = answers i; device = devices i; at = places i }
@@ -41,7 +46,9 @@ pub cells-agree : (p : Prog Filled) (b : Bus) (r r′ : Cells) (list list′ log
     → (r ≡ r′) × (list ≡ list′) × (log ≡ log′)
 cells-agree p b r r′ list list′ log log′ e e′ =
     let same = e ∙ sym e′ in (
-      left-agree r r′ (ap (λ (x : Ran Filled). x .answer .answer) same) (ap (λ (x : Ran Filled). x .answer .device) same)
+      left-agree r r′
+          (ap (λ (x : Ran Filled). x .answer .answer) same)
+          (ap (λ (x : Ran Filled). x .answer .device) same)
           (ap (λ (x : Ran Filled). x .bus .at) same),
       ap (λ (x : Ran Filled). x .answer .list) same,
       ap (λ (x : Ran Filled). x .bus .log) same,
@@ -54,7 +61,9 @@ pub wired-agree : (p : Prog Shown) (b : Bus) (r r′ : Cells) (inputs inputs′ 
     → (r ≡ r′) × (inputs ≡ inputs′) × (list ≡ list′) × (log ≡ log′)
 wired-agree p b r r′ inputs inputs′ list list′ log log′ e e′ =
     let same = e ∙ sym e′ in (
-      left-agree r r′ (ap (λ (x : Ran Shown). x .answer .answer) same) (ap (λ (x : Ran Shown). x .answer .device) same)
+      left-agree r r′
+          (ap (λ (x : Ran Shown). x .answer .answer) same)
+          (ap (λ (x : Ran Shown). x .answer .device) same)
           (ap (λ (x : Ran Shown). x .bus .at) same),
       ap (λ (x : Ran Shown). x .answer .inputs) same,
       ap (λ (x : Ran Shown). x .answer .list) same,
@@ -69,7 +78,8 @@ pub part-agree : {P : Type 0} (start : P) (part : List ℕ) (held held′ : List
 part-agree start part held held′ ptr ptr′ e e′ = (e .0 ∙ sym (e′ .0), e .1 ∙ sym (e′ .1))
 
 -- a call that answers and moves the cursor, whatever its program, where its answer is told one to one
-module _ {A E : Type 0} (tell : E → Answer A) (one : (a b : E) → tell a ≡ tell b → a ≡ b) (p : Prog (Answer A)) (b : Bus) where
+module _ {A E : Type 0} (tell : E → Answer A) (one : (a b : E) → tell a ≡ tell b → a ≡ b)
+    (p : Prog (Answer A)) (b : Bus) where
   told-agree : (a a′ : E) (log log′ : List ℕ) (at at′ : Cursor)
       → ran (tell a) (b .tape) log at ≡ onTape p b
       → ran (tell a′) (b .tape) log′ at′ ≡ onTape p b
@@ -97,7 +107,7 @@ volts n = Va.Volts (record { 0 = n })
 voltage-undone : (a : VoltageAnswer) → answerBack volts Va.Refused (asVoltage a) ≡ a
 unfolding volts
 voltage-undone (Va.Volts voltage) = refl
-voltage-undone (Va.Refused e) = ap Va.Refused (untold-told e)
+voltage-undone (Va.Refused e) = ap Va.Refused (undone e)
 
 pub voltage-agree : (p : Prog (Answer ℕ)) (b : Bus) (r r′ : VoltageRead) (log log′ : List ℕ)
     → ran (asVoltage (r .answer)) (b .tape) log (r .at) ≡ onTape p b
@@ -111,7 +121,7 @@ voltage-agree p b r r′ log log′ e e′ =
 -- `temperature`
 temperature-undone : (a : TemperatureAnswer) → answerBack A.Degrees A.Refused (asTemperature a) ≡ a
 temperature-undone (A.Degrees temperature) = refl
-temperature-undone (A.Refused e) = ap A.Refused (untold-told e)
+temperature-undone (A.Refused e) = ap A.Refused (undone e)
 
 pub temperature-agree : (p : Prog (Answer Temperature)) (b : Bus) (r r′ : TemperatureRead) (log log′ : List ℕ)
     → ran (asTemperature (r .answer)) (b .tape) log (r .at) ≡ onTape p b

@@ -1,5 +1,5 @@
--- Which input's reading each cell of the crate's list is, by the moves; on which packs these are the fitted inputs; and that the moves' order
--- can't be seen.
+-- Which input's reading each cell of the crate's list is, by the moves; on which packs these are the fitted inputs; and
+-- that the moves' order can't be seen.
 -- Assumes nothing.
 use mathlib.Core.Path.{_≡_, refl, sym, ap, _∙_}
 use mathlib.Core.Bool.{Bool, true, false, not, _&&_}
@@ -52,21 +52,26 @@ length-moved true to from l = length-set l to (getD l from (named 0))
 length-moved false to from l = refl
 
 module _ (f : MilliVolts → MilliVolts) where
-  moved-map : (m : Move) (l : List MilliVolts) → m .from < length l → movedIf (m .when) (m .to) (m .from) (map f l) ≡ map f (movedIf (m .when) (m .to) (m .from) l)
+  moved-map : (m : Move) (l : List MilliVolts) → m .from < length l
+      → movedIf (m .when) (m .to) (m .from) (map f l) ≡ map f (movedIf (m .when) (m .to) (m .from) l)
   moved-map m l h = by-test (m .when)
     where
       by-test : (t : Bool) → movedIf t (m .to) (m .from) (map f l) ≡ map f (movedIf t (m .to) (m .from) l)
       by-test false = refl
       by-test true =
           let there : m .from < length (map f l) = rw (length-map l f) h in
-          let read = getD-any (map f l) (m .from) (named 0) (f (named 0)) there ∙ List·getD-map f l (m .from) (named 0) in
+          let read =
+          getD-any (map f l) (m .from) (named 0) (f (named 0)) there
+          ∙ List·getD-map f l (m .from) (named 0) in
           ap (set (map f l) (m .to)) read ∙ sym (map-set f l (m .to) (getD l (m .from) (named 0)))
 
-  turned-map : (ms : List Move) (l : List MilliVolts) → length l ≡ 15 → Within ms → inTurn ms (map f l) ≡ map f (inTurn ms l)
+  turned-map : (ms : List Move) (l : List MilliVolts) → length l ≡ 15 → Within ms
+      → inTurn ms (map f l) ≡ map f (inTurn ms l)
   turned-map [] l size within = refl
   turned-map (m ∷ ms) l size within =
+      let size′ = length-moved (m .when) (m .to) (m .from) l ∙ size in
       ap (inTurn ms) (moved-map m l (omega (arith, within .0)))
-      ∙ turned-map ms (movedIf (m .when) (m .to) (m .from) l) (length-moved (m .when) (m .to) (m .from) l ∙ size) (within .1)
+      ∙ turned-map ms (movedIf (m .when) (m .to) (m .from) l) size′ (within .1)
 
 -- the moves take no cell from past the fifteenth
 within : (x n : ℕ) → Within (moves x n)
@@ -85,7 +90,8 @@ module _ (cells : List MilliVolts) where
       ∙ ap at (List·getD-map named names k 0)
       ∙ ap (λ (i : ℕ). getD cells i (named 0)) place)
 
-  pub shows : length cells ≡ 15 → (x n : ℕ) → firstCells n (inTurn (moves x n) cells) ≡ map (λ (i : ℕ). at (named i) .0) (inputsOf x n)
+  pub shows : length cells ≡ 15 → (x n : ℕ)
+      → firstCells n (inTurn (moves x n) cells) ≡ map (λ (i : ℕ). at (named i) .0) (inputsOf x n)
   shows size x n =
       let shown = inTurn (moves x n) (map named names) in
       let all : cells ≡ map at (map named names) = ext-getD (named 0) cells _ size λ k h. named-at k (omega arith) in
@@ -103,14 +109,18 @@ abbrev allApart : List ℕ → List ℕ → Bool
 allApart [] ks = true
 allApart (n ∷ ns) ks = apart n ks && allApart ns ks
 
-pub sources-stay : (x n : ℕ) → allApart (map (λ (m : Move). m .from) (moves x n)) (map (λ (m : Move). m .to) (moves x n)) ≡ true
+pub sources-stay : (x n : ℕ)
+    → allApart (map (λ (m : Move). m .from) (moves x n)) (map (λ (m : Move). m .to) (moves x n)) ≡ true
 sources-stay x n = refl
 
 -- so two moves with different targets can change places
-pub either-first : (a b : Bool) (to from to′ from′ : ℕ) (cells : List MilliVolts) → to ≢ to′ → from ≢ to′ → from′ ≢ to
+pub either-first : (a b : Bool) (to from to′ from′ : ℕ) (cells : List MilliVolts)
+    → to ≢ to′ → from ≢ to′ → from′ ≢ to
     → movedIf b to′ from′ (movedIf a to from cells) ≡ movedIf a to from (movedIf b to′ from′ cells)
 either-first true true to from to′ from′ cells h k l =
-    rw (getD-set-other cells to from′ (getD cells from (named 0)) (named 0) l, getD-set-other cells to′ from (getD cells from′ (named 0)) (named 0) k)
+    let read = getD-set-other cells to from′ (getD cells from (named 0)) (named 0) l in
+    let read′ = getD-set-other cells to′ from (getD cells from′ (named 0)) (named 0) k in
+    rw (read, read′)
     (set-comm cells to to′ (getD cells from (named 0)) (getD cells from′ (named 0)) h)
 either-first true false to from to′ from′ cells h k l = refl
 either-first false true to from to′ from′ cells h k l = refl

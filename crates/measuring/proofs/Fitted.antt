@@ -8,7 +8,7 @@ use native.Mathlib.Omega.{arith}
 use lib.IntN.{ℤ, pos}
 use lib.ListN.{take, getD}
 use lib.Seq.{getD-take}
-use Rattle.signed.specs.Numbers.{asU32}
+use Rattle.numbers.specs.Numbers.{asU32}
 use Rattle.wiring.specs.Tables.{fitted}
 use Rattle.wiring.specs.Questions.{fifteen}
 use Rattle.wiring.proofs.Rows.{as-many, row-within, row-first, row-at}
@@ -20,18 +20,21 @@ use Rattle.measuring.proofs.Sizes.{sound-pack, sound-sizes}
 
 module _ (d : BQ769x0) (sound : isSound d ≡ true) where
   abbrev x : ℕ
-  x = d .x
+  x = d .link .x
 
   abbrev n : ℕ
   n = d .«cell_count»
 
-  pub listed-within : {row : List ℕ} → row ≡ fifteen (fitted x n) → (k : ℕ) → k < n → (1 ≤ getD row k 0) × (getD row k 0 ≤ 15)
+  pub listed-within : {row : List ℕ} → row ≡ fifteen (fitted x n) → (k : ℕ) → k < n
+      → (1 ≤ getD row k 0) × (getD row k 0 ≤ 15)
   listed-within e k h =
       let within = row-within x n (sound-pack d sound) k h in
       rw (e, row-at x n (sound-pack d sound) k h) (within .0, omega (arith, sound-sizes d sound))
 
   -- two functions that agree on the device's inputs
-  pub of-fitted : {A : Type 0} (f g : ℕ → A) → ((input : ℕ) → 1 ≤ input → input ≤ x → f input ≡ g input) → map f (fitted x n) ≡ map g (fitted x n)
+  pub of-fitted : {A : Type 0} (f g : ℕ → A)
+      → ((input : ℕ) → 1 ≤ input → input ≤ x → f input ≡ g input)
+      → map f (fitted x n) ≡ map g (fitted x n)
   of-fitted f g same =
       map-same f g (fitted x n) λ k h.
       let within = row-within x n (sound-pack d sound) k (rw (as-many x n (sound-pack d sound)) at h) in
@@ -40,7 +43,9 @@ module _ (d : BQ769x0) (sound : isSound d ≡ true) where
   pub listed-inputs : {row : List ℕ} → row ≡ fifteen (fitted x n) → take n row ≡ fitted x n
   listed-inputs e = rw (e, row-first x n (sound-pack d sound))
 
-  pub listed-volts : {row : List ℕ} (readings : List ℤ) → row ≡ fifteen (fitted x n) → map (ofInput readings) (take n row) ≡ voltages x n (take x readings)
+  pub listed-volts : {row : List ℕ} (readings : List ℤ) → row ≡ fifteen (fitted x n)
+      → map (ofInput readings) (take n row) ≡ voltages x n (take x readings)
   listed-volts readings e =
       ap (map (ofInput readings)) (listed-inputs e)
-      ∙ of-fitted (ofInput readings) (ofInput (take x readings)) λ input low high. ap asU32 (sym (getD-take x readings (input - 1) (pos 0) (omega arith)))
+      ∙ of-fitted (ofInput readings) (ofInput (take x readings)) λ input low high.
+      ap asU32 (sym (getD-take x readings (input - 1) (pos 0) (omega arith)))

@@ -15,7 +15,9 @@ use Rattle.measuring.proofs.Reading.{by-call}
 
 module _ (d : BQ769x0) (list : List ℕ) where
   abbrev pub Shows : Ran Filled → Type 0
-  Shows x = x .answer .answer ≡ value tt → x .answer .list ≡ firstCells (d .«cell_count») (x .answer .device .cells) over list
+  Shows x =
+      x .answer .answer ≡ value tt
+      → x .answer .list ≡ firstCells (d .«cell_count») (x .answer .device .readings .cells) over list
 
   pub cells-shown : (b : Bus) → Shows (onTape (cellVoltages d list) b)
   unfolding cellVoltages readCells

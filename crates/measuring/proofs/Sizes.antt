@@ -13,16 +13,19 @@ use Rattle.bq769x0.specs.declared.BQ769x0.{BQ769x0}
 use Rattle.bq769x0.proofs.Keeps.{decides}
 
 -- a device that is not refused passes the test of its count
-passes : (size count address : Bool) → T (accepts (refusedIf (not size) 9 (refusedIf (not count) 10 (refusedIf address 11 (value (tt {0})))))) → T count
+passes : (size count address : Bool)
+    → T (accepts (refusedIf (not size) 9 (refusedIf (not count) 10 (refusedIf address 11 (value (tt {0}))))))
+    → T count
 passes true true address t = tt
 passes true false address t = absurd t
 passes false count address t = absurd t
 
-pub sound-pack : (d : BQ769x0) → isSound d ≡ true → T (isCount (d .x) (d .«cell_count»))
+pub sound-pack : (d : BQ769x0) → isSound d ≡ true → T (isCount (d .link .x) (d .«cell_count»))
 unfolding deviceFor
 sound-pack d e =
     let taken = ap (λ (y : Answer Done). accepts y) (decides d e .device) in
-    passes (isSize (d .x)) (isCount (d .x) (d .«cell_count»)) (ltb 127 (d .«dev_address»)) (subst T (sym taken) tt)
+    passes (isSize (d .link .x)) (isCount (d .link .x) (d .«cell_count»)) (ltb 127 (d .link .address))
+    (subst T (sym taken) tt)
 
-pub sound-sizes : (d : BQ769x0) → isSound d ≡ true → (d .x ≤ 15) × (d .«cell_count» ≤ 15)
-sound-sizes d e = at-most-15 (d .x) (d .«cell_count») (sound-pack d e)
+pub sound-sizes : (d : BQ769x0) → isSound d ≡ true → (d .link .x ≤ 15) × (d .«cell_count» ≤ 15)
+sound-sizes d e = at-most-15 (d .link .x) (d .«cell_count») (sound-pack d e)

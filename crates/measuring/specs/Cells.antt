@@ -6,12 +6,12 @@ use mathlib.Core.List.{List, [], _∷_, map}
 use lib.Dec.{ltb}
 use lib.IntN.{ℤ}
 use lib.ListN.{length, take}
-use Rattle.refusals.specs.Refusal.{Refusal, Answer, value, refused, refusedIf}
+use Rattle.refusals.specs.Refusal.{Refusal, Answer, value, refused, refusedIf, nine}
 use Rattle.units.specs.declared.MilliVolts.{MilliVolts}
 use Rattle.bus.specs.Fields.{if_then_else_}
 use Rattle.bus.specs.Programs.{Prog, ret, _orLeave_, _>>=_}
 use Rattle.bus.specs.Raw.{Done}
-use Rattle.bq769x0.specs.Record.{nine, withCells}
+use Rattle.bq769x0.specs.Record.{withReadings}
 use Rattle.bq769x0.specs.Registers.{soundly}
 use Rattle.bq769x0.specs.declared.BQ769x0.{BQ769x0}
 use Rattle.measuring.specs.Inputs.{_over_, asCells, readInputs}
@@ -25,7 +25,9 @@ firstCells n cells = take n (map volts cells)
 
 -- the record with a reading of all inputs in it, the moves made; the places after them keep what they held
 abbrev pub taking : BQ769x0 → List ℤ → BQ769x0
-taking d inputs = withCells d (inTurn (moves (d .x) (d .«cell_count»)) (asCells inputs over d .cells))
+taking d inputs =
+    withReadings d
+    (record { cells = inTurn (moves (d .link .x) (d .«cell_count»)) (asCells inputs over d .readings .cells) })
 
 -- an answer, and the record and the caller's list then
 pub record Filled : Type 0 where
@@ -45,11 +47,11 @@ abbrev pub ready : BQ769x0 → ℕ → Answer Done
 ready d room = refusedIf (not (d .«init_complete»)) 4 (refusedIf (ltb room (d .«cell_count»)) 19 (value tt))
 
 abbrev pub listed : BQ769x0 → List ℕ → Filled
-listed d list = filled (value tt) d (firstCells (d .«cell_count») (d .cells) over list)
+listed d list = filled (value tt) d (firstCells (d .«cell_count») (d .readings .cells) over list)
 
 unfoldable pub readCells : BQ769x0 → List ℕ → Prog Filled
 readCells d list = do
-  inputs ← readInputs d orLeave untouched d list
+  inputs ← readInputs (d .link) (d .adc) orLeave untouched d list
   ret (listed (taking d inputs) list)
 
 unfoldable pub cellVoltages : BQ769x0 → List ℕ → Prog Filled

@@ -4,15 +4,14 @@ use Prim.Native.Nat.{ℕ, _*_}
 use mathlib.Core.List.{List, [], _∷_, _++_, map}
 use lib.IntN.{ℤ}
 use lib.ListN.{length, drop}
-use Rattle.signed.specs.Numbers.{word, asU32}
+use Rattle.numbers.specs.Numbers.{word, asU32}
 use Rattle.refusals.specs.Refusal.{Answer, value, refused}
 use Rattle.adc.specs.Conversion.{millivolts}
 use Rattle.adc.specs.declared.transfer.AdcTransferFunction.{AdcTransferFunction}
 use Rattle.units.specs.declared.MilliVolts.{MilliVolts}
 use Rattle.bus.specs.Programs.{Prog, ret, _orLeave_, _>>=_}
 use Rattle.bus.specs.Raw.{readBytes}
-use Rattle.bq769x0.specs.Record.{setupOf, adcOf}
-use Rattle.bq769x0.specs.declared.BQ769x0.{BQ769x0}
+use Rattle.bus.specs.declared.raw.Link.{Link}
 
 -- l with v in place of its first elements
 infixl 6 _over_
@@ -36,7 +35,7 @@ asCell z = record { 0 = asU32 z }
 abbrev pub asCells : List ℤ → List MilliVolts
 asCells = map asCell
 
-unfoldable pub readInputs : BQ769x0 → Prog (Answer (List ℤ))
-readInputs d = do
-  bytes ← readBytes (setupOf d) 0x0C (2 * d .x) orLeave refused
-  ret (value (converted (adcOf d) bytes))
+unfoldable pub readInputs : Link → AdcTransferFunction → Prog (Answer (List ℤ))
+readInputs link adc = do
+  bytes ← readBytes link 0x0C (2 * link .x) orLeave refused
+  ret (value (converted adc bytes))

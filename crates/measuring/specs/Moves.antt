@@ -1,4 +1,5 @@
--- The moves of the crate's `cell_voltages`, in its order: by X and the count alone, one cell goes over another. Places count from 0.
+-- The moves of the crate's `cell_voltages`, in its order: by X and the count alone, one cell goes over another. Places
+-- count from 0.
 -- Assumes nothing.
 use Prim.Native.Nat.{ℕ}
 use mathlib.Core.Bool.{Bool, true, false, not, _&&_, _||_}

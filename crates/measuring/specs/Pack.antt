@@ -3,12 +3,11 @@
 use Prim.Native.Nat.{ℕ}
 use mathlib.Core.Bool.{not}
 use lib.IntN.{ℤ}
-use Rattle.signed.specs.Numbers.{asI16, asU32}
-use Rattle.refusals.specs.Refusal.{Answer, value, refused, refusedIf, told}
+use Rattle.numbers.specs.Numbers.{asI16, asU32}
+use Rattle.refusals.specs.Refusal.{Answer, value, refused, refusedIf, asRefusal, nine}
 use Rattle.adc.specs.Conversion.{milliamperes, packMillivolts}
 use Rattle.bus.specs.Programs.{Prog, ret, _orLeave_, _>>=_}
 use Rattle.bus.specs.Raw.{Done}
-use Rattle.bq769x0.specs.Record.{nine, setupOf}
 use Rattle.bq769x0.specs.Registers.{soundly}
 use Rattle.bq769x0.specs.declared.BQ769x0.{BQ769x0}
 use Rattle.measuring.specs.Word.{readWord}
@@ -23,15 +22,15 @@ initialised d = refusedIf (not (d .«init_complete»)) 4 (value tt)
 unfoldable pub current : BQ769x0 → Prog (Answer ℤ)
 current d = soundly d (refused nine) (do
   _ ← ret (initialised d) orLeave refused
-  cc ← readWord (setupOf d) 0x32 orLeave refused
+  cc ← readWord (d .link) 0x32 orLeave refused
   ret (milliamperes (asI16 cc) (d .shunt .0)))
 
 abbrev pub asVoltage : VoltageAnswer → Answer ℕ
 asVoltage (Va.Volts voltage) = value (voltage .0)
-asVoltage (Va.Refused e) = refused (told e)
+asVoltage (Va.Refused e) = refused (asRefusal e)
 
 -- 2A and 2B: with five offsets, whatever the device
 unfoldable pub voltage : BQ769x0 → Prog (Answer ℕ)
 voltage d = soundly d (refused nine) (do
-  reading ← readWord (setupOf d) 0x2A orLeave refused
-  ret (value (asU32 (packMillivolts 5 (d .«adc_gain») (d .«adc_offset») reading))))
+  reading ← readWord (d .link) 0x2A orLeave refused
+  ret (value (asU32 (packMillivolts 5 (d .adc .gain) (d .adc .offset) reading))))

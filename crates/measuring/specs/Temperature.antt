@@ -1,10 +1,10 @@
--- The temperature as a program beside the crate's `temperature`, over a stage that gives the reading and then its source.
+-- The temperature as a program beside the crate's `temperature`, over a stage that gives the reading and then its
+-- source.
 -- Assumes nothing.
 use Prim.Native.Nat.{ℕ, _*_}
 use lib.IntN.{pos}
-use Rattle.refusals.specs.Refusal.{Answer, value, refused, told}
+use Rattle.refusals.specs.Refusal.{Answer, value, refused, asRefusal, nine}
 use Rattle.bus.specs.Programs.{Prog, ret, _orLeave_, _>>=_}
-use Rattle.bq769x0.specs.Record.{nine, setupOf}
 use Rattle.bq769x0.specs.Registers.{soundly}
 use Rattle.bq769x0.specs.declared.BQ769x0.{BQ769x0}
 use Rattle.commands.specs.Commands.{temperatureSource}
@@ -24,7 +24,7 @@ pub record Sensed : Type 0 where
 
 abbrev pub asSensed : SensedAnswer → Answer Sensed
 asSensed (S.Sensed reading source) = value (record { reading = reading; source = source })
-asSensed (S.Refused e) = refused (told e)
+asSensed (S.Refused e) = refused (asRefusal e)
 
 unfoldable pub withSource : ℕ → BQ769x0 → Prog (Answer Sensed)
 withSource reading d = do
@@ -34,7 +34,7 @@ withSource reading d = do
 -- 2C and 2D, then 04
 unfoldable pub sense : BQ769x0 → Prog (Answer Sensed)
 sense d = do
-  reading ← readWord (setupOf d) 0x2C orLeave refused
+  reading ← readWord (d .link) 0x2C orLeave refused
   withSource reading d
 
 -- 382 µV a step, named degrees
@@ -44,7 +44,7 @@ degrees reading ExternalThermistor = T.ExternalThermistor (record { 0 = pos (rea
 
 abbrev pub asTemperature : TemperatureAnswer → Answer Temperature
 asTemperature (A.Degrees temperature) = value temperature
-asTemperature (A.Refused e) = refused (told e)
+asTemperature (A.Refused e) = refused (asRefusal e)
 
 unfoldable pub temperature : BQ769x0 → Prog (Answer Temperature)
 temperature d = soundly d (refused nine) (do

@@ -1,18 +1,17 @@
--- The cells by the datasheet's wiring, as a program: the crate's one read of all inputs, and of it each fitted input once, bottom of the pack
--- first, with its number beside it.
+-- The cells by the datasheet's wiring, as a program: the crate's one read of all inputs, and of it each fitted input
+-- once, bottom of the pack first, with its number beside it.
 -- Assumes nothing.
 use Prim.Native.Nat.{ℕ, _+_, _-_, _*_, min}
 use mathlib.Core.List.{List, map}
 use lib.IntN.{ℤ, pos}
 use lib.ListN.{length, getD}
-use Rattle.signed.specs.Numbers.{word, asU32}
-use Rattle.refusals.specs.Refusal.{Refusal, Answer, value, refused}
+use Rattle.numbers.specs.Numbers.{word, asU32}
+use Rattle.refusals.specs.Refusal.{Refusal, Answer, value, refused, nine}
 use Rattle.adc.specs.Conversion.{millivolts}
 use Rattle.adc.specs.declared.transfer.AdcTransferFunction.{AdcTransferFunction}
 use Rattle.wiring.specs.Tables.{fitted}
 use Rattle.bus.specs.Programs.{Prog, ret, _orLeave_, _>>=_}
 use Rattle.bus.specs.Raw.{Done}
-use Rattle.bq769x0.specs.Record.{nine}
 use Rattle.bq769x0.specs.Registers.{soundly}
 use Rattle.bq769x0.specs.declared.BQ769x0.{BQ769x0}
 use Rattle.measuring.specs.Inputs.{_over_, readInputs}
@@ -54,11 +53,13 @@ voltages x n readings = map (ofInput readings) (fitted x n)
 -- the record as the crate's call leaves it
 abbrev pub showing : BQ769x0 → List ℕ → List ℕ → List ℤ → Shown
 showing d inputs list readings =
-    shown (value tt) (taking d readings) (fitted (d .x) (d .«cell_count») over inputs) (voltages (d .x) (d .«cell_count») readings over list)
+    shown (value tt) (taking d readings)
+    (fitted (d .link .x) (d .«cell_count») over inputs)
+    (voltages (d .link .x) (d .«cell_count») readings over list)
 
 unfoldable pub readWired : BQ769x0 → List ℕ → List ℕ → Prog Shown
 readWired d inputs list = do
-  readings ← readInputs d orLeave unshown d inputs list
+  readings ← readInputs (d .link) (d .adc) orLeave unshown d inputs list
   ret (showing d inputs list readings)
 
 -- 9, 4, and 19 where either list is shorter than the count

@@ -2,19 +2,19 @@
 -- Assumes nothing.
 use Prim.Native.Nat.{ℕ}
 use lib.ListN.{getD}
-use Rattle.signed.specs.Numbers.{word}
-use Rattle.refusals.specs.Refusal.{Answer, value, refused, told}
+use Rattle.numbers.specs.Numbers.{word}
+use Rattle.refusals.specs.Refusal.{Answer, value, refused, asRefusal}
 use Rattle.bus.specs.Programs.{Prog, ret, _orLeave_, _>>=_}
 use Rattle.bus.specs.Raw.{readBytes}
-use Rattle.bus.specs.declared.raw.Setup.{Setup}
+use Rattle.bus.specs.declared.raw.Link.{Link}
 use Rattle.measuring.specs.declared.word.WordAnswer.{WordAnswer}
 use Rattle.measuring.specs.declared.word.WordAnswer.the-variants as W
 
 abbrev pub asWord : WordAnswer → Answer ℕ
 asWord (W.Word n) = value n
-asWord (W.Refused e) = refused (told e)
+asWord (W.Refused e) = refused (asRefusal e)
 
-unfoldable pub readWord : Setup → ℕ → Prog (Answer ℕ)
+unfoldable pub readWord : Link → ℕ → Prog (Answer ℕ)
 readWord s reg = do
   bytes ← readBytes s reg 2 orLeave refused
   ret (value (word (getD bytes 0 0) (getD bytes 1 0)))

@@ -2,14 +2,14 @@
 ghost use mathlib.Core.Path.{_≡_};
 ghost use Prim.Native.Nat.{_≤_};
 ghost use lib.ListN.{length, take};
-ghost use Rattle.bus.specs.Transfers.{busOf};
-ghost use Rattle.bus.specs.Programs.{onTape, ran};
+ghost use Rattle.bus.specs.Lent.{does};
 ghost use Rattle.bus.specs.Raw.{asRaw};
 ghost use Rattle.measuring.specs.Inputs.{_over_, asCells};
 ghost use Rattle.measuring.specs.Cells.{filled, firstCells, handed, readCells, cellVoltages};
 use crate::inputs;
 use crate::moves;
 use bq769x0::BQ769x0;
+use bq769x0::Readings;
 use bus::Cursor;
 use bus::raw::RawAnswer;
 use refusals::Error;
@@ -28,8 +28,8 @@ pub fn cell_voltages(
     log: &mut [u8],
     at: Cursor,
 ) -> Cells
-    ensures { λ r. ⌜ ran (filled (asRaw (r .answer)) (r .device) (now (list .exit))) (now (tape .entry)) (now (log .exit)) (r .at)
-        ≡ onTape (cellVoltages device (now (list .entry))) (busOf (now (tape .entry)) (now (log .entry)) at) ⌝ }
+    ensures { λ r. ⌜ does (cellVoltages device (now (list .entry))) tape log at
+        (filled (asRaw (r .answer)) (r .device) (now (list .exit))) (r .at) ⌝ }
 {
     if !device.is_sound() {
         return refuse(Error::BadDevice, device, at);
@@ -55,15 +55,16 @@ pub(crate) fn refuse(e: Error, device: BQ769x0, at: Cursor) -> Cells
 
 // On a record and a list that pass the tests; where the read is refused nothing of either is touched.
 fn read_cells(device: BQ769x0, list: &mut [u32], tape: &[u8], log: &mut [u8], at: Cursor) -> Cells
-    requires { ⌜ (device .x ≤ 15) × (device .«cell_count» ≤ 15) ⌝ }
+    requires { ⌜ (device .link .x ≤ 15) × (device .«cell_count» ≤ 15) ⌝ }
     requires { ⌜ device .«cell_count» ≤ length (now list) ⌝ }
-    ensures { λ r. ⌜ ran (filled (asRaw (r .answer)) (r .device) (now (list .exit))) (now (tape .entry)) (now (log .exit)) (r .at)
-        ≡ onTape (readCells device (now (list .entry))) (busOf (now (tape .entry)) (now (log .entry)) at) ⌝ }
+    ensures { λ r. ⌜ does (readCells device (now (list .entry))) tape log at
+        (filled (asRaw (r .answer)) (r .device) (now (list .exit))) (r .at) ⌝ }
 {
-    let x = device.x;
+    let link = device.link;
+    let x = link.x;
     let cell_count = device.cell_count;
-    let held = device.cells;
-    let read = inputs::read_inputs(device, tape, log, at);
+    let held = device.readings.cells;
+    let read = inputs::read_inputs(link, device.adc, tape, log, at);
     let answer = read.answer;
     let millivolts = read.millivolts;
     let next = read.at;
@@ -76,16 +77,18 @@ fn read_cells(device: BQ769x0, list: &mut [u32], tape: &[u8], log: &mut [u8], at
     };
     let cells = moves::in_turn(x, cell_count, stored(x as usize, millivolts, held));
     fill(cell_count as usize, cells, list);
+    let readings = Readings { cells };
     Cells {
         answer,
-        device: device.store_cells(cells),
+        device: device.store_readings(readings),
         at: next,
     }
 }
 
 // The leading part of the list, filled from the record; nothing where the count exceeds the list or 15.
 pub fn cells_of<'a>(device: BQ769x0, list: &'a mut [u32]) -> &'a mut [u32]
-    ensures { λ r. ⌜ (now r ≡ handed (device .«cell_count») (device .cells) (length (now (list .entry)))) × (r .ptr ≡ list .entry .ptr) ⌝ }
+    ensures { λ r. ⌜ (now r ≡ handed (device .«cell_count») (device .readings .cells) (length (now (list .entry))))
+        × (r .ptr ≡ list .entry .ptr) ⌝ }
 {
     let n = device.cell_count as usize;
     if list.len() < n {
@@ -94,7 +97,7 @@ pub fn cells_of<'a>(device: BQ769x0, list: &'a mut [u32]) -> &'a mut [u32]
     if 15 < n {
         return &mut list[..0];
     }
-    let cells = device.cells;
+    let cells = device.readings.cells;
     fill(n, cells, list);
     &mut list[..n]
 }
@@ -108,7 +111,7 @@ pub(crate) fn stored(n: usize, inputs: [i32; 15], cells: [MilliVolts; 15]) -> [M
     let mut i = 0;
     while i < n {
         let input = inputs[i];
-        out[i] = MilliVolts(signed::as_u32(input));
+        out[i] = MilliVolts(numbers::as_u32(input));
         i += 1;
     }
     out

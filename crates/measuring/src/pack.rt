@@ -1,8 +1,6 @@
 // The pack's current and voltage.
-ghost use mathlib.Core.Path.{_≡_};
 ghost use Rattle.adc.specs.Conversion.{asCurrent};
-ghost use Rattle.bus.specs.Transfers.{busOf};
-ghost use Rattle.bus.specs.Programs.{onTape, ran};
+ghost use Rattle.bus.specs.Lent.{does};
 ghost use Rattle.measuring.specs.Pack.{current, asVoltage, voltage};
 use crate::word;
 use crate::word::WordAnswer;
@@ -29,8 +27,7 @@ pub struct VoltageRead {
 }
 
 pub fn current(device: BQ769x0, tape: &[u8], log: &mut [u8], at: Cursor) -> CurrentRead
-    ensures { λ r. ⌜ ran (asCurrent (r .answer)) (now (tape .entry)) (now (log .exit)) (r .at)
-        ≡ onTape (current device) (busOf (now (tape .entry)) (now (log .entry)) at) ⌝ }
+    ensures { λ r. ⌜ does (current device) tape log at (asCurrent (r .answer)) (r .at) ⌝ }
 {
     if !device.is_sound() {
         return CurrentRead {
@@ -50,7 +47,7 @@ pub fn current(device: BQ769x0, tape: &[u8], log: &mut [u8], at: Cursor) -> Curr
     let shunt = device.shunt;
     match answer {
         WordAnswer::Word(cc) => CurrentRead {
-            answer: counter::current(signed::as_i16(cc), shunt),
+            answer: counter::current(numbers::as_i16(cc), shunt),
             at: next,
         },
         WordAnswer::Refused(e) => CurrentRead {
@@ -61,8 +58,7 @@ pub fn current(device: BQ769x0, tape: &[u8], log: &mut [u8], at: Cursor) -> Curr
 }
 
 pub fn voltage(device: BQ769x0, tape: &[u8], log: &mut [u8], at: Cursor) -> VoltageRead
-    ensures { λ r. ⌜ ran (asVoltage (r .answer)) (now (tape .entry)) (now (log .exit)) (r .at)
-        ≡ onTape (voltage device) (busOf (now (tape .entry)) (now (log .entry)) at) ⌝ }
+    ensures { λ r. ⌜ does (voltage device) tape log at (asVoltage (r .answer)) (r .at) ⌝ }
 {
     if !device.is_sound() {
         return VoltageRead {
@@ -75,7 +71,7 @@ pub fn voltage(device: BQ769x0, tape: &[u8], log: &mut [u8], at: Cursor) -> Volt
     let next = read.at;
     match answer {
         WordAnswer::Word(vv) => {
-            let adc = device.adc_transfer_function();
+            let adc = device.adc;
             VoltageRead {
                 answer: VoltageAnswer::Volts(adc.pack_voltage(5, vv)),
                 at: next,

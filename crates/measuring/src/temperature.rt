@@ -1,7 +1,5 @@
 // The temperature: the crate's reading in µV, named degrees, and where it comes from.
-ghost use mathlib.Core.Path.{_≡_};
-ghost use Rattle.bus.specs.Transfers.{busOf};
-ghost use Rattle.bus.specs.Programs.{onTape, ran};
+ghost use Rattle.bus.specs.Lent.{does};
 ghost use Rattle.measuring.specs.Temperature.{asSensed, withSource, sense, asTemperature, temperature};
 use crate::degrees;
 use crate::degrees::Temperature;
@@ -35,8 +33,7 @@ struct SensedRead {
 }
 
 pub fn temperature(device: BQ769x0, tape: &[u8], log: &mut [u8], at: Cursor) -> TemperatureRead
-    ensures { λ r. ⌜ ran (asTemperature (r .answer)) (now (tape .entry)) (now (log .exit)) (r .at)
-        ≡ onTape (temperature device) (busOf (now (tape .entry)) (now (log .entry)) at) ⌝ }
+    ensures { λ r. ⌜ does (temperature device) tape log at (asTemperature (r .answer)) (r .at) ⌝ }
 {
     if !device.is_sound() {
         return TemperatureRead {
@@ -61,8 +58,7 @@ pub fn temperature(device: BQ769x0, tape: &[u8], log: &mut [u8], at: Cursor) -> 
 
 // The reading, and then its source.
 fn sense(device: BQ769x0, tape: &[u8], log: &mut [u8], at: Cursor) -> SensedRead
-    ensures { λ r. ⌜ ran (asSensed (r .answer)) (now (tape .entry)) (now (log .exit)) (r .at)
-        ≡ onTape (sense device) (busOf (now (tape .entry)) (now (log .entry)) at) ⌝ }
+    ensures { λ r. ⌜ does (sense device) tape log at (asSensed (r .answer)) (r .at) ⌝ }
 {
     let read = word::read_word(device, 0x2c, tape, log, at);
     let answer = read.answer;
@@ -77,8 +73,7 @@ fn sense(device: BQ769x0, tape: &[u8], log: &mut [u8], at: Cursor) -> SensedRead
 }
 
 fn with_source(ts: u16, device: BQ769x0, tape: &[u8], log: &mut [u8], at: Cursor) -> SensedRead
-    ensures { λ r. ⌜ ran (asSensed (r .answer)) (now (tape .entry)) (now (log .exit)) (r .at)
-        ≡ onTape (withSource ts device) (busOf (now (tape .entry)) (now (log .entry)) at) ⌝ }
+    ensures { λ r. ⌜ does (withSource ts device) tape log at (asSensed (r .answer)) (r .at) ⌝ }
 {
     let read = control::temperature_source(device, tape, log, at);
     let answer = read.answer;

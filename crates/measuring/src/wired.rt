@@ -4,8 +4,7 @@ ghost use Prim.Native.Nat.{ℕ, _≤_, _<_};
 ghost use mathlib.Core.Bool.{true};
 ghost use mathlib.Core.List.{map};
 ghost use lib.ListN.{length, getD, take};
-ghost use Rattle.bus.specs.Transfers.{busOf};
-ghost use Rattle.bus.specs.Programs.{onTape, ran};
+ghost use Rattle.bus.specs.Lent.{does};
 ghost use Rattle.bus.specs.Raw.{asRaw};
 ghost use Rattle.bq769x0.specs.Record.{isSound};
 ghost use Rattle.measuring.specs.Inputs.{_over_};
@@ -15,6 +14,7 @@ use crate::cells::Cells;
 use crate::inputs;
 use crate::moves;
 use bq769x0::BQ769x0;
+use bq769x0::Readings;
 use bus::Cursor;
 use bus::raw::RawAnswer;
 use refusals::Error;
@@ -28,8 +28,8 @@ pub fn wired(
     log: &mut [u8],
     at: Cursor,
 ) -> Cells
-    ensures { λ r. ⌜ ran (shown (asRaw (r .answer)) (r .device) (now (inputs .exit)) (now (list .exit))) (now (tape .entry)) (now (log .exit)) (r .at)
-        ≡ onTape (wired device (now (inputs .entry)) (now (list .entry))) (busOf (now (tape .entry)) (now (log .entry)) at) ⌝ }
+    ensures { λ r. ⌜ does (wired device (now (inputs .entry)) (now (list .entry))) tape log at
+        (shown (asRaw (r .answer)) (r .device) (now (inputs .exit)) (now (list .exit))) (r .at) ⌝ }
 {
     if !device.is_sound() {
         return cells::refuse(Error::BadDevice, device, at);
@@ -57,13 +57,14 @@ fn read_wired(
 ) -> Cells
     requires { ⌜ isSound device ≡ true ⌝ }
     requires { ⌜ (device .«cell_count» ≤ length (now inputs)) × (device .«cell_count» ≤ length (now list)) ⌝ }
-    ensures { λ r. ⌜ ran (shown (asRaw (r .answer)) (r .device) (now (inputs .exit)) (now (list .exit))) (now (tape .entry)) (now (log .exit)) (r .at)
-        ≡ onTape (readWired device (now (inputs .entry)) (now (list .entry))) (busOf (now (tape .entry)) (now (log .entry)) at) ⌝ }
+    ensures { λ r. ⌜ does (readWired device (now (inputs .entry)) (now (list .entry))) tape log at
+        (shown (asRaw (r .answer)) (r .device) (now (inputs .exit)) (now (list .exit))) (r .at) ⌝ }
 {
-    let x = device.x;
+    let link = device.link;
+    let x = link.x;
     let cell_count = device.cell_count;
-    let held = device.cells;
-    let read = inputs::read_inputs(device, tape, log, at);
+    let held = device.readings.cells;
+    let read = inputs::read_inputs(link, device.adc, tape, log, at);
     let answer = read.answer;
     let millivolts = read.millivolts;
     let next = read.at;
@@ -74,13 +75,14 @@ fn read_wired(
             at: next,
         };
     };
-    let stored = cells::stored(x as usize, millivolts, held);
-    let cells = moves::in_turn(x, cell_count, stored);
     let fitted = tables::fitted(x, cell_count);
     show(cell_count as usize, fitted, millivolts, inputs, list);
+    let stored = cells::stored(x as usize, millivolts, held);
+    let cells = moves::in_turn(x, cell_count, stored);
+    let readings = Readings { cells };
     Cells {
         answer,
-        device: device.store_cells(cells),
+        device: device.store_readings(readings),
         at: next,
     }
 }
@@ -97,7 +99,7 @@ fn show(n: usize, fitted: [u8; 15], millivolts: [i32; 15], inputs: &mut [u8], li
         let input = fitted[i];
         let reading = millivolts[input as usize - 1];
         inputs[i] = input;
-        list[i] = signed::as_u32(reading);
+        list[i] = numbers::as_u32(reading);
         i += 1;
     }
 }

@@ -1,8 +1,5 @@
 // Two registers as one number, the high byte first.
-ghost use mathlib.Core.Path.{_≡_};
-ghost use Rattle.bus.specs.Transfers.{busOf};
-ghost use Rattle.bus.specs.Programs.{onTape, ran};
-ghost use Rattle.bq769x0.specs.Record.{setupOf};
+ghost use Rattle.bus.specs.Lent.{does};
 ghost use Rattle.measuring.specs.Word.{asWord, readWord};
 use bq769x0::BQ769x0;
 use bus::Cursor;
@@ -26,17 +23,16 @@ pub(crate) fn read_word(
     log: &mut [u8],
     at: Cursor,
 ) -> WordRead
-    ensures { λ r. ⌜ ran (asWord (r .answer)) (now (tape .entry)) (now (log .exit)) (r .at)
-        ≡ onTape (readWord (setupOf device) reg) (busOf (now (tape .entry)) (now (log .entry)) at) ⌝ }
+    ensures { λ r. ⌜ does (readWord (device .link) reg) tape log at (asWord (r .answer)) (r .at) ⌝ }
 {
-    let setup = device.setup();
+    let link = device.link;
     let mut bytes = [0u8; 2];
-    let read = setup.read_raw(reg, &mut bytes, tape, log, at);
+    let read = link.read_raw(reg, &mut bytes, tape, log, at);
     let answer = read.answer;
     let next = read.at;
     match answer {
         RawAnswer::Done => WordRead {
-            answer: WordAnswer::Word(signed::be_u16(bytes[0], bytes[1])),
+            answer: WordAnswer::Word(numbers::be_u16(bytes[0], bytes[1])),
             at: next,
         },
         RawAnswer::Refused(e) => WordRead {

@@ -12,5 +12,8 @@ use Rattle.chip.proofs.Honest.{on-a-tape}
 abbrev its : {A : Type 0} → Prog A → Wired → Bus
 its p w = record { tape = tapeOf onWire p w; log = logOf onWire p w; at = record { tape = 0; log = 0 } }
 
-pub on-every-chip : {A : Type 0} (P : A → Type 0) (p : Prog A) → ((b : Bus) → P (onTape p b .answer)) → (w : Wired) → P (onChip p w .answer)
-on-every-chip {A} P p h w = subst P (ap (λ (r : Ran A). r .answer) (on-a-tape p w (its p w) refl (omega arith) .ran)) (h (its p w))
+pub on-every-chip : {A : Type 0} (P : A → Type 0) (p : Prog A) → ((b : Bus) → P (onTape p b .answer)) → (w : Wired)
+    → P (onChip p w .answer)
+on-every-chip {A} P p h w =
+    subst P (ap (λ (r : Ran A). r .answer) (on-a-tape p w (its p w) refl (omega arith) .ran))
+    (h (its p w))

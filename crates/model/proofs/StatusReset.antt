@@ -1,9 +1,10 @@
--- A status reset on the model chip, on a whole wire: the chip clears the flags, in both builds. With checks the answer is done. Without them it is 5
--- with register 00, unless the status was 0 and no flag was asked for. First the statement.
+-- A status reset on the model chip, on a whole wire: the chip clears the flags, in both builds. With checks the answer
+-- is done. Without them it is 5 with register 00, unless the status was 0 and no flag was asked for.
+-- First the statement.
 -- Assumes nothing.
 use mathlib.Core.Path.{_≡_, refl, sym, ap, _∙_}
 use mathlib.Core.Bool.{Bool, true, false, _&&_}
-use mathlib.Core.List.{[], _∷_}
+use mathlib.Core.List.{List, [], _∷_}
 use mathlib.Core.Option.{none}
 use Prim.Native.Nat.{ℕ, zero, suc, _-_, _/_, _≤_}
 use native.Mathlib.Omega.{arith}
@@ -16,7 +17,7 @@ use Rattle.units.specs.declared.flags.SysStat.{SysStat}
 use Rattle.refusals.specs.Refusal.{Answer, value, refused}
 use Rattle.bus.specs.Transfers.{read, Outcome, done}
 use Rattle.bus.specs.Raw.{Done, send, wrote, compared, verified, askBack, writeRaw}
-use Rattle.bq769x0.specs.Record.{isSound, setupOf}
+use Rattle.bq769x0.specs.Record.{isSound}
 use Rattle.bq769x0.specs.Registers.{soundly}
 use Rattle.bq769x0.specs.declared.BQ769x0.{BQ769x0}
 use Rattle.commands.specs.Bits.{holds}
@@ -29,16 +30,16 @@ use Rattle.chip.proofs.Devices.{went-on}
 use Rattle.chip.proofs.Raws.{send-leaves}
 use Rattle.chip.proofs.Shows.{plain-part}
 use Rattle.model.specs.Reset.{resetAnswer, flagsCleared}
-use Rattle.bq769x0.proofs.Speaks.{setup-sound}
+use Rattle.bq769x0.proofs.Speaks.{link-sound}
 
 abbrev pub StatusReset : Type 0
 StatusReset =
     (d : BQ769x0) (c : Chip) (flags : SysStat)
     → isSound d ≡ true
-    → Matches (setupOf d) c
+    → Matches (d .link) c
     → holds 0b0100_0000 (flags .bits) ≡ false
     → onChip (sysStatReset d flags) (uncut c)
-    ≡ reached (resetAnswer (d .check) (getD (c .regs) 0 0) (flags .bits)) (uncut (flagsCleared (flags .bits) c))
+    ≡ reached (resetAnswer (d .link .check) (getD (c .regs) 0 0) (flags .bits)) (uncut (flagsCleared (flags .bits) c))
 
 -- ---- flags that are what they leave of a status are none: bit by bit, a flag that is 1 leaves 0
 halves : (s f : ℕ) → f ≡ s - bitAnd s f → f / 2 ≡ s / 2 - bitAnd (s / 2) (f / 2)
@@ -62,37 +63,49 @@ reads-back : (s f : ℕ) → eqb f (s - bitAnd s f) ≡ (eqb f 0 && eqb s 0)
 reads-back s zero =
     let all : s - 0 ≡ s = omega arith in
     rw (and-zero-r s, all) (turned s)
-reads-back s (suc f) = ne-eqb (suc f) (s - bitAnd s (suc f)) (λ e. some f (no-flag (suc f) s (suc f) (omega arith) e)) ∙ rw (ne-eqb (suc f) 0 (some f))
+reads-back s (suc f) =
+    ne-eqb (suc f) (s - bitAnd s (suc f)) (λ e. some f (no-flag (suc f) s (suc f) (omega arith) e))
+    ∙ rw (ne-eqb (suc f) 0 (some f))
 
 -- ---- the write, and what is read back without checks
-module _ (d : BQ769x0) (c : Chip) (flags : ℕ) (ok : isSound d ≡ true) (m : Matches (setupOf d) c) where
+module _ (d : BQ769x0) (c : Chip) (flags : ℕ) (ok : isSound d ≡ true) (m : Matches (d .link) c) where
+  abbrev status : ℕ
+  status = getD (c .regs) 0 0
+
   abbrev after : Chip
   after = flagsCleared flags c
 
-  sent : onChip (send (setupOf d) 0 (flags ∷ [])) (uncut c) ≡ reached (value tt) (uncut after)
-  unfolding wrote stores
-  sent = send-leaves (setupOf d) (setup-sound d ok) (uncut c) m 0 (flags ∷ []) (omega arith) (omega arith) (omega arith)
+  -- 00 as it is then read
+  abbrev cleared : List ℕ
+  cleared = held 0 1 (after .regs)
 
-  back : d .check ≡ false → onChip (askBack (d .«dev_address») 0 (flags ∷ [])) (uncut after) ≡ reached (compared 0 (flags ∷ []) (held 0 1 (after .regs))) (uncut after)
+  sent : onChip (send (d .link) 0 (flags ∷ [])) (uncut c) ≡ reached (value tt) (uncut after)
+  unfolding wrote stores
+  sent = send-leaves (d .link) (link-sound d ok) (uncut c) m 0 (flags ∷ []) (omega arith) (omega arith) (omega arith)
+
+  back : d .link .check ≡ false
+      → onChip (askBack (d .link .address) 0 (flags ∷ [])) (uncut after)
+      ≡ reached (compared 0 (flags ∷ []) cleared) (uncut after)
   unfolding askBack onDevice onWire verified
   back e =
-      let shown : respondCut none after (read (d .«dev_address») 0 1) ≡ reached (done (held 0 1 (after .regs))) after =
+      let shown : respondCut none after (read (d .link .address) 0 1) ≡ reached (done cleared) after =
       rw (m .address) (plain-part after 0 1 (sym (m .check) ∙ e) (omega arith) none) in
-      ap (λ (r : Reached Chip Outcome). reached (verified 0 (flags ∷ []) (r .answer)) (next (uncut after) (r .device))) shown
+      ap (λ (r : Reached Chip Outcome). reached (verified 0 (flags ∷ []) (r .answer)) (next (uncut after) (r .device)))
+      shown
 
-  told : compared 0 (flags ∷ []) (held 0 1 (after .regs)) ≡ resetAnswer false (getD (c .regs) 0 0) flags
+  told : compared 0 (flags ∷ []) cleared ≡ resetAnswer false status flags
   unfolding compared held arrives
   told =
-      let status = getD (c .regs) 0 0 in
       rw (getD-set-same (c .regs) 0 (status - bitAnd status flags) 0 (omega (arith, m .size)), reads-back status flags)
 
-  by-check : (check : Bool) → d .check ≡ check → onChip (writeRaw (setupOf d) 0 (flags ∷ [])) (uncut c) ≡ reached (resetAnswer check (getD (c .regs) 0 0) flags) (uncut after)
+  by-check : (check : Bool) → d .link .check ≡ check
+      → onChip (writeRaw (d .link) 0 (flags ∷ [])) (uncut c) ≡ reached (resetAnswer check status flags) (uncut after)
   unfolding writeRaw onDevice
-  by-check true e = went-on onWire (send (setupOf d) 0 (flags ∷ [])) refused _ (uncut c) (uncut after) tt sent ∙ rw e
+  by-check true e = went-on onWire (send (d .link) 0 (flags ∷ [])) refused _ (uncut c) (uncut after) tt sent ∙ rw e
   by-check false e =
-      went-on onWire (send (setupOf d) 0 (flags ∷ [])) refused _ (uncut c) (uncut after) tt sent
+      went-on onWire (send (d .link) 0 (flags ∷ [])) refused _ (uncut c) (uncut after) tt sent
       ∙ rw e (back e ∙ ap (λ (a : Answer Done). reached a (uncut after)) told)
 
 pub status-reset : StatusReset
 unfolding soundly
-status-reset d c flags ok m known = simp (ok, known) (by-check d c (flags .bits) ok m (d .check) refl)
+status-reset d c flags ok m known = simp (ok, known) (by-check d c (flags .bits) ok m (d .link .check) refl)

@@ -11,7 +11,8 @@ use Rattle.bus.specs.Raw.{Done}
 use Rattle.chip.specs.Chip.{withRegs, arrives}
 use Rattle.chip.specs.declared.Chip.{Chip}
 
--- by the build, the status before and the flags: without checks the cleared status is compared with the flags, so 5 with register 00 unless both are 0
+-- by the build, the status before and the flags: without checks the cleared status is compared with the flags,
+-- so 5 with register 00 unless both are 0
 abbrev pub resetAnswer : Bool → ℕ → ℕ → Answer Done
 resetAnswer true status flags = value tt
 resetAnswer false status flags = if eqb flags 0 && eqb status 0 then value tt else refused (no 5 (pos 0x00 ∷ []))

@@ -4,7 +4,7 @@
 use mathlib.Core.Path.{_≡_, refl, ap}
 use Rattle.laws.proofs.Inverse.{one-to-one}
 use Rattle.laws.proofs.Variants.{by-variants}
-use Rattle.refusals.proofs.Telling.{answerBack, untold-told}
+use Rattle.refusals.proofs.OneToOne.{answerBack, undone}
 use Rattle.protection.specs.Answers.{asCode, asRange, asSCDStep, asOCDStep}
 use Rattle.protection.specs.Scd as scd
 use Rattle.protection.specs.Ocd as ocd
@@ -37,19 +37,19 @@ ocd-agree = one-to-one ocd.mvOf ocd.named ocd-named
 -- an answer is told by its value or by its refusal
 code-undone : (c : Code) → answerBack C.Bits C.Refused (asCode c) ≡ c
 code-undone (C.Bits n) = refl
-code-undone (C.Refused e) = ap C.Refused (untold-told e)
+code-undone (C.Refused e) = ap C.Refused (undone e)
 
 range-undone : (r : RangeAnswer) → answerBack R.Use R.Refused (asRange r) ≡ r
 range-undone (R.Use range) = refl
-range-undone (R.Refused e) = ap R.Refused (untold-told e)
+range-undone (R.Refused e) = ap R.Refused (undone e)
 
 scd-undone : (s : SCDStep) → answerBack (λ n. S.Step (scd.named n)) S.Refused (asSCDStep s) ≡ s
 scd-undone (S.Step t) = ap S.Step (scd-named t)
-scd-undone (S.Refused e) = ap S.Refused (untold-told e)
+scd-undone (S.Refused e) = ap S.Refused (undone e)
 
 ocd-undone : (s : OCDStep) → answerBack (λ n. O.Step (ocd.named n)) O.Refused (asOCDStep s) ≡ s
 ocd-undone (O.Step t) = ap O.Step (ocd-named t)
-ocd-undone (O.Refused e) = ap O.Refused (untold-told e)
+ocd-undone (O.Refused e) = ap O.Refused (undone e)
 
 pub code-agree : (a b : Code) → asCode a ≡ asCode b → a ≡ b
 code-agree = one-to-one asCode (answerBack C.Bits C.Refused) code-undone

@@ -1,7 +1,7 @@
 -- The code's answers in the terms of the definitions: a number, or a refusal.
 -- Assumes nothing.
 use Prim.Native.Nat.{ℕ}
-use Rattle.refusals.specs.Refusal.{Answer, value, refused, told}
+use Rattle.refusals.specs.Refusal.{Answer, value, refused, asRefusal}
 use Rattle.protection.specs.Scd as scd
 use Rattle.protection.specs.Ocd as ocd
 use Rattle.protection.specs.declared.Across.{Across}
@@ -18,20 +18,20 @@ use Rattle.protection.specs.declared.ocd.OCDStep.the-variants as O
 
 abbrev pub asAcross : Across → Answer ℕ
 asAcross (A.Mv n) = value n
-asAcross (A.Refused e) = refused (told e)
+asAcross (A.Refused e) = refused (asRefusal e)
 
 abbrev pub asCode : Code → Answer ℕ
 asCode (C.Bits n) = value n
-asCode (C.Refused e) = refused (told e)
+asCode (C.Refused e) = refused (asRefusal e)
 
 abbrev pub asSCDStep : SCDStep → Answer ℕ
 asSCDStep (S.Step t) = value (scd.mvOf t)
-asSCDStep (S.Refused e) = refused (told e)
+asSCDStep (S.Refused e) = refused (asRefusal e)
 
 abbrev pub asOCDStep : OCDStep → Answer ℕ
 asOCDStep (O.Step t) = value (ocd.mvOf t)
-asOCDStep (O.Refused e) = refused (told e)
+asOCDStep (O.Refused e) = refused (asRefusal e)
 
 abbrev pub asRange : RangeAnswer → Answer OCDSCDRange
 asRange (R.Use range) = value range
-asRange (R.Refused e) = refused (told e)
+asRange (R.Refused e) = refused (asRefusal e)

@@ -1,7 +1,7 @@
--- A run of the code's `init` answers and records what its program does on the chip, and its own log, the last field cut, leaves on the chip what
--- the program leaves there.
+-- A run of the code's `init` answers and records what its program does on the chip, and its own log, the last field
+-- cut, leaves on the chip what the program leaves there.
 -- Assumes nothing.
-use mathlib.Core.Path.{_≡_, sym, ap, ap₂, _∙_}
+use mathlib.Core.Path.{_≡_, sym, ap, _∙_}
 use mathlib.Core.List.{List}
 use mathlib.Core.Option.{Option, some}
 use Prim.Native.Nat.{ℕ, _+_, _-_, _≤_}
@@ -10,9 +10,9 @@ use lib.ListN.{length, take, drop}
 use lib.Seq.{drop-at, length-take-le}
 use Rattle.refusals.specs.Refusal.{Answer}
 use Rattle.frames.proofs.Put.{take-put}
-use Rattle.settings.specs.Steps.{InMv}
-use Rattle.settings.specs.Plan.{Values, asInit}
-use Rattle.settings.specs.declared.Config.{Config}
+use Rattle.plan.specs.Steps.{InMv}
+use Rattle.plan.specs.Plan.{Values, asInit}
+use Rattle.plan.specs.declared.Config.{Config}
 use Rattle.bus.specs.Transfers.{Transfer, Bus, busOf, moved}
 use Rattle.bus.specs.Programs.{Prog, Ran, ran}
 use Rattle.bus.specs.Decoders.{transfersIn}
@@ -49,7 +49,7 @@ module _ {choose : Config → Answer InMv} {config : Config} {d : BQ769x0} {w : 
   is-added =
       let l = logOf onWire p w in
       let n = run .at .log in
-      ap₂ (λ (k : ℕ) (v : List ℕ). drop n (take k v)) (ap (λ (r : Ran (Left Values)). r .bus .at .log) went) (ap (λ (r : Ran (Left Values)). r .bus .log) went)
+      ap (λ (r : Ran (Left Values)). drop n (take (r .bus .at .log) (r .bus .log))) went
       ∙ ap (drop n) (take-put (run .log) n l room)
       ∙ drop-at (take n (run .log)) l n (length-take-le n (run .log) (omega (arith, room)))
 

@@ -1,4 +1,5 @@
--- Demand 3, for the code by its promise: what an `init` that the bus fails leaves, and that it can be done again. First the statements.
+-- Demand 3, for the code by its promise: what an `init` that the bus fails leaves, and that it can be done again.
+-- First the statements.
 -- Assumes nothing.
 use mathlib.Core.Path.{_≡_, sym, ap, subst₂, _∙_}
 use mathlib.Core.Bool.{true, false, false≢true}
@@ -6,13 +7,13 @@ use mathlib.Core.List.{List}
 use mathlib.Core.Option.{Option, some}
 use Prim.Native.Nat.{ℕ}
 use Rattle.refusals.specs.Refusal.{Answer}
-use Rattle.settings.specs.Steps.{InMv}
-use Rattle.settings.specs.Plan.{Values}
-use Rattle.settings.specs.declared.Config.{Config}
-use Rattle.settings.proofs.Agree.{answer-agree}
+use Rattle.plan.specs.Steps.{InMv}
+use Rattle.plan.specs.Plan.{Values}
+use Rattle.plan.specs.declared.Config.{Config}
+use Rattle.plan.proofs.Agree.{answer-agree}
 use Rattle.bus.specs.Transfers.{Transfer, busOf}
 use Rattle.bus.specs.Programs.{Ran}
-use Rattle.bq769x0.specs.Record.{Left, isSound, setupOf}
+use Rattle.bq769x0.specs.Record.{Left, isSound}
 use Rattle.bq769x0.specs.Init.{initBy}
 use Rattle.bq769x0.specs.declared.BQ769x0.{BQ769x0}
 use Rattle.bq769x0.proofs.Keeps.{init-keeps}
@@ -26,14 +27,16 @@ use Rattle.recovery.proofs.Cut.{stays}
 use Rattle.recovery.proofs.Again.{again}
 use Rattle.recovery.proofs.ByLog.{as-on-chip, log-read, left-by-log}
 
--- A run of the code, by its promise: its own log reads back as transfers, and these, the last one cut where the wire was, leave on the chip what
--- the program leaves there.
-pub record ByItsLog {choose : Config → Answer InMv} {config : Config} {d : BQ769x0} {w : Wired} (run : Run choose config d w) : Type 0 where
+-- A run of the code, by its promise: its own log reads back as transfers, and these, the last one cut where the wire
+-- was, leave on the chip what the program leaves there.
+pub record ByItsLog {choose : Config → Answer InMv} {config : Config} {d : BQ769x0} {w : Wired}
+    (run : Run choose config d w) : Type 0 where
   pub reads-back : readBack run ≡ some (transfers (readBack run))
   pub chip : leftBy run ≡ onChip (initBy choose d config) w .device .chip
 
 module _ (choose : Config → Answer InMv) (config : Config) (d : BQ769x0) (c : Chip) where
-  -- Cut runs, one or many in a row, have left this record and chip; and a run on a sound bus, from these, ends as one from the originals.
+  -- Cut runs, one or many in a row, have left this record and chip; and a run on a sound bus, from these, ends as one
+  -- from the originals.
   pub record Recovers (d′ : BQ769x0) (c′ : Chip) : Type 0 where
     pub left : Leaves choose config d c d′ c′
     pub again : (second : Run choose config d′ (uncut c′)) (whole : Run choose config d (uncut c)) → Alike second whole
@@ -45,7 +48,8 @@ module _ (choose : Config → Answer InMv) (config : Config) (d : BQ769x0) (c : 
     pub only-marked : first .gave .device .«init_complete» ≡ true → recovers .left .new ≡ 6
 
 -- ---- the proofs
-pub by-log : {choose : Config → Answer InMv} {config : Config} {d : BQ769x0} {w : Wired} (run : Run choose config d w) → ByItsLog run
+pub by-log : {choose : Config → Answer InMv} {config : Config} {d : BQ769x0} {w : Wired} (run : Run choose config d w)
+    → ByItsLog run
 by-log run =
     let e = log-read run in
     record {
@@ -53,8 +57,10 @@ by-log run =
       chip = left-by-log run;
     }
 
--- for every sound record and its chip, every configuration, and whatever way the steps are chosen (the crate's is stepsFor)
-module _ (choose : Config → Answer InMv) (config : Config) (d : BQ769x0) (c : Chip) (ok : isSound d ≡ true) (m : Matches (setupOf d) c) where
+-- for every sound record and its chip, every configuration, and whatever way the steps are chosen (the crate's
+-- is stepsFor)
+module _ (choose : Config → Answer InMv) (config : Config) (d : BQ769x0) (c : Chip) (ok : isSound d ≡ true)
+    (m : Matches (d .link) c) where
   sound-then : {d′ : BQ769x0} {c′ : Chip} → Runs choose config d c d′ c′ → isSound d′ ≡ true
   sound-then none-yet = ok
   sound-then (one-more {d′ = d′} runs cuts run) =
@@ -70,20 +76,24 @@ module _ (choose : Config → Answer InMv) (config : Config) (d : BQ769x0) (c : 
       (stays choose config d c ok m d′ (on c′ cuts) (left-then runs))
 
   module _ {d′ : BQ769x0} {c′ : Chip} (runs : Runs choose config d c d′ c′) where
-    again-alike : (second : Run choose config d′ (uncut c′)) (whole : Run choose config d (uncut c)) → Alike second whole
+    again-alike : (second : Run choose config d′ (uncut c′)) (whole : Run choose config d (uncut c))
+        → Alike second whole
     again-alike second whole =
         let same = again choose config d c ok m (left-then runs) (sound-then runs) in
-        let both = as-on-chip second ∙ ap (λ (r : Reached Wired (Left Values)). r .answer) same ∙ sym (as-on-chip whole) in
+        let answers = ap (λ (r : Reached Wired (Left Values)). r .answer) same in
+        let chips = ap (λ (r : Reached Wired (Left Values)). r .device .chip) same in
+        let both = as-on-chip second ∙ answers ∙ sym (as-on-chip whole) in
         record {
           answer = answer-agree (second .gave .answer) (whole .gave .answer) (ap (λ (l : Left Values). l .answer) both);
           device = ap (λ (l : Left Values). l .device) both;
-          chip = left-by-log second ∙ ap (λ (r : Reached Wired (Left Values)). r .device .chip) same ∙ sym (left-by-log whole);
+          chip = left-by-log second ∙ chips ∙ sym (left-by-log whole);
         }
 
     pub recovers : Recovers choose config d c d′ c′
     recovers = record { left = left-then runs; again = again-alike }
 
-  pub demand-3 : d .«init_complete» ≡ false → {cuts : ℕ → Option ℕ} (first : Run choose config d (on c cuts)) → Demand3 choose config d c first
+  pub demand-3 : d .«init_complete» ≡ false → {cuts : ℕ → Option ℕ} (first : Run choose config d (on c cuts))
+      → Demand3 choose config d c first
   demand-3 new {cuts} first =
       let r = recovers (one-more none-yet cuts first) in
       record { by-log = by-log first; recovers = r; only-marked = λ e. all-new (r .left .recorded) e }

@@ -7,7 +7,8 @@ use Prim.Native.Nat.{ℕ, _+_, _-_, _/_, _%_, _≤_, _<_, max}
 use native.Mathlib.Omega.{arith}
 use lib.Arith.{bin-ind}
 use lib.ListN.{length, take, drop, getD, set, length-take, length-set, length-append, take-append-drop}
-use lib.Seq.{length-take-le, take-add, take-set-lt, drop-set-lt, set-append-left, getD-set-same, getD-set-other, set-set}
+use lib.Seq.{length-take-le, take-add, take-set-lt, drop-set-lt, set-append-left}
+use lib.Seq.{getD-set-same, getD-set-other, set-set}
 use lib.Bits.{bitOr, or-step, or-self}
 use lib.Dec.{leb}
 use borrow.Author.Tests.{leb-true, leb-false}
@@ -18,7 +19,8 @@ use Rattle.recovery.specs.Recovery.{firstNew, bit6, counted, regsLeft}
 
 -- ---- bits set twice
 or-again : (b a : ℕ) → bitOr (bitOr a b) b ≡ bitOr a b
-or-again b a = bin-ind (λ (n : ℕ). (b : ℕ) → bitOr (bitOr n b) b ≡ bitOr n b) or-self (λ n ih b. step n b (ih (b / 2))) a b
+or-again b a =
+    bin-ind (λ (n : ℕ). (b : ℕ) → bitOr (bitOr n b) b ≡ bitOr n b) or-self (λ n ih b. step n b (ih (b / 2))) a b
   where
     step : (n b : ℕ) → bitOr (bitOr (n / 2) (b / 2)) (b / 2) ≡ bitOr (n / 2) (b / 2) → bitOr (bitOr n b) b ≡ bitOr n b
     step n b ih =
@@ -31,9 +33,12 @@ or-again b a = bin-ind (λ (n : ℕ). (b : ℕ) → bitOr (bitOr n b) b ≡ bitO
 -- what stands there already changes nothing
 put-held : (l v : List ℕ) (at : ℕ) → take (at + length v) l ≡ take at l ++ v → put l at v ≡ l
 unfolding put
-put-held l v at e = ap (λ (front : List ℕ). front ++ drop (at + length v) l) (sym e) ∙ take-append-drop (at + length v) l
+put-held l v at e =
+    ap (λ (front : List ℕ). front ++ drop (at + length v) l) (sym e)
+    ∙ take-append-drop (at + length v) l
 
-put-again : (l v w : List ℕ) (at : ℕ) → at + length (v ++ w) ≤ length l → put (put l at (v ++ w)) at v ≡ put l at (v ++ w)
+put-again : (l v w : List ℕ) (at : ℕ) → at + length (v ++ w) ≤ length l
+    → put (put l at (v ++ w)) at v ≡ put l at (v ++ w)
 put-again l v w at room =
     let all : at + (length v + length w) ≤ length l = rw length-append at room in
     let first : at + length v ≤ length l = omega arith in
@@ -59,7 +64,8 @@ put-parts l v at m n hm hn room = by (leb m n) refl
         let less = leb-false m n e in
         let most : max m n ≡ m = omega arith in
         let sum : m ≡ n + (m - n) = omega arith in
-        let split : take m v ≡ take n v ++ take (m - n) (drop n v) = ap (λ (k : ℕ). take k v) sum ∙ take-add n (m - n) v in
+        let split : take m v ≡ take n v ++ take (m - n) (drop n v) =
+        ap (λ (k : ℕ). take k v) sum ∙ take-add n (m - n) v in
         let lm = length-take-le m v hm in
         let size : length (take n v ++ take (m - n) (drop n v)) ≡ m = ap length (sym split) ∙ lm in
         ap (λ (u : List ℕ). put (put l at u) at (take n v)) split

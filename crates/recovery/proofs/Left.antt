@@ -1,7 +1,8 @@
--- What a cut `init` leaves: the setup and the calibration as they were, and a further first part of the six bytes is one of them.
+-- What a cut `init` leaves: the link and the calibration as they were, and a further first part of the six bytes
+-- is one of them.
 -- Assumes nothing.
 use mathlib.Core.Path.{_≡_, refl, sym, ap, _∙_}
-use mathlib.Core.Bool.{true, false, false≢true}
+use mathlib.Core.Bool.{Bool, true, false, false≢true}
 use mathlib.Core.List.{List}
 use Prim.Native.Nat.{ℕ, _≤_, max}
 use native.Mathlib.Omega.{arith}
@@ -11,25 +12,31 @@ use Rattle.adc.specs.Registers.{calibration}
 use Rattle.adc.specs.declared.transfer.AdcTransferFunction.{AdcTransferFunction}
 use Rattle.frames.specs.Put.{put}
 use Rattle.frames.proofs.Put.{put-none}
-use Rattle.settings.specs.Order.{_>>=_}
-use Rattle.settings.specs.Steps.{InMv}
-use Rattle.settings.specs.Plan.{Planned, planFor}
-use Rattle.settings.specs.declared.Config.{Config}
-use Rattle.settings.proofs.Accepted.{first}
-use Rattle.settings.proofs.Six.{plan-six}
-use Rattle.bus.specs.declared.raw.Setup.{Setup}
-use Rattle.bq769x0.specs.Record.{accepts, setupOf, withCalibration, withShunt}
+use Rattle.plan.specs.Order.{_>>=_}
+use Rattle.plan.specs.Steps.{InMv}
+use Rattle.plan.specs.Plan.{Planned, planFor}
+use Rattle.plan.specs.declared.Config.{Config}
+use Rattle.plan.proofs.Accepted.{first}
+use Rattle.plan.proofs.Six.{plan-six}
+use Rattle.bus.specs.declared.raw.Link.{Link}
+use Rattle.bq769x0.specs.Record.{accepts, withCalibration, withShunt}
 use Rattle.bq769x0.specs.declared.BQ769x0.{BQ769x0}
 use Rattle.chip.specs.Chip.{withRegs}
 use Rattle.chip.specs.OnChip.{Matches}
 use Rattle.chip.specs.declared.Chip.{Chip}
-use Rattle.recovery.specs.Recovery.{calibrationOf, planOn, bytesOf, six, chipLeft, Recorded, as-it-was, calibrated, marked, Leaves}
-use Rattle.recovery.proofs.Forms.{length-left, left-above, left-more}
+use Rattle.recovery.specs.Recovery.{calibrationOf, planOn, bytesOf, counted, six, chipLeft}
+use Rattle.recovery.specs.Recovery.{Recorded, as-it-was, calibrated, marked, Leaves}
+use Rattle.recovery.proofs.Forms.{length-left, left-above, left-more, left-counted}
+
+-- the record calibrated by the chip, and marked with the new shunt
+abbrev pub setUp : Config → BQ769x0 → Chip → BQ769x0
+setUp config d c = withShunt (withCalibration d (calibrationOf c)) (config .shunt)
 
 module _ (choose : Config → Answer InMv) (config : Config) (c : Chip) where
   -- the plan, once the steps are chosen
   pub planned : (steps : InMv) → choose config ≡ value steps → (y : Answer Planned)
-      → planFor (calibrationOf c .gain) (calibrationOf c .offset) config (steps .scd) (steps .ocd) ≡ y → planOn choose config c ≡ y
+      → planFor (calibrationOf c .gain) (calibrationOf c .offset) config (steps .scd) (steps .ocd) ≡ y
+      → planOn choose config c ≡ y
   unfolding planOn _>>=_
   planned steps e y q = rw e q
 
@@ -51,6 +58,13 @@ module _ (choose : Config → Answer InMv) (config : Config) (c : Chip) where
       by (value plan) e = omega (arith, six-all plan e)
       by (refused r) e = omega arith
 
+  -- bit 6 of 05 set in a chip that is left
+  pub counted-left : length (c .regs) ≡ 256 → (on : Bool) (n : ℕ) {c′ : Chip} → c′ ≡ chipLeft choose config c on n
+      → withRegs c′ (counted (c′ .regs)) ≡ chipLeft choose config c true n
+  counted-left size on n e =
+      ap (λ (x : Chip). withRegs x (counted (x .regs))) e
+      ∙ ap (withRegs c) (left-counted (six choose config c) (c .regs) size six-few on n)
+
 module _ {choose : Config → Answer InMv} {config : Config} {d : BQ769x0} {c : Chip} where
   -- nothing yet
   pub at-first : Leaves choose config d c d c
@@ -64,10 +78,10 @@ module _ {choose : Config → Answer InMv} {config : Config} {d : BQ769x0} {c : 
   }
 
   -- ---- the record
-  pub same-setup : {n : ℕ} {d′ : BQ769x0} → Recorded choose config d c n d′ → setupOf d′ ≡ setupOf d
-  same-setup as-it-was = refl
-  same-setup (calibrated e) = refl
-  same-setup (marked q) = refl
+  pub same-link : {n : ℕ} {d′ : BQ769x0} → Recorded choose config d c n d′ → d′ .link ≡ d .link
+  same-link as-it-was = refl
+  same-link (calibrated e) = refl
+  same-link (marked q) = refl
 
   recalibrates : {n : ℕ} {d′ : BQ769x0} → accepts (choose config) ≡ true → Recorded choose config d c n d′
       → Recorded choose config d c n (withCalibration d′ (calibrationOf c))
@@ -75,37 +89,51 @@ module _ {choose : Config → Answer InMv} {config : Config} {d : BQ769x0} {c : 
   recalibrates e (calibrated q) = calibrated q
   recalibrates e (marked q) = marked q
 
-  pub marks : {n : ℕ} {d′ : BQ769x0} → Recorded choose config d c n d′
-      → withShunt (withCalibration d′ (calibrationOf c)) (config .shunt) ≡ withShunt (withCalibration d (calibrationOf c)) (config .shunt)
+  pub marks : {n : ℕ} {d′ : BQ769x0} → Recorded choose config d c n d′ → setUp config d′ c ≡ setUp config d c
   marks as-it-was = refl
   marks (calibrated q) = refl
   marks (marked q) = refl
 
-  more-recorded : {n : ℕ} {d′ : BQ769x0} (k : ℕ) → k ≤ 6 → Recorded choose config d c n d′ → Recorded choose config d c (max n k) d′
+  more-recorded : {n : ℕ} {d′ : BQ769x0} (k : ℕ) → k ≤ 6 → Recorded choose config d c n d′
+      → Recorded choose config d c (max n k) d′
   more-recorded {n} k h as-it-was = as-it-was
   more-recorded {n} k h (calibrated q) = calibrated q
   more-recorded {n} k h (marked q) = marked {n = max n k} (omega arith)
 
   pub recalibrated : {d′ : BQ769x0} {c′ : Chip} → accepts (choose config) ≡ true → Leaves choose config d c d′ c′
       → Leaves choose config d c (withCalibration d′ (calibrationOf c)) c′
-  recalibrated e l = record { new = l .new; on = l .on; few = l .few; last = l .last; chip = l .chip; recorded = recalibrates e (l .recorded) }
+  recalibrated e l = record {
+    new = l .new;
+    on = l .on;
+    few = l .few;
+    last = l .last;
+    chip = l .chip;
+    recorded = recalibrates e (l .recorded);
+  }
 
   -- ---- the chip
-  module _ (m : Matches (setupOf d) c) {d′ : BQ769x0} {c′ : Chip} (l : Leaves choose config d c d′ c′) where
+  module _ (m : Matches (d .link) c) {d′ : BQ769x0} {c′ : Chip} (l : Leaves choose config d c d′ c′) where
     abbrev six′ : List ℕ
     six′ = six choose config c
 
-    pub matches-left : Matches (setupOf d′) c′
+    most : length six′ ≤ 6
+    most = six-few choose config c
+
+    pub matches-left : Matches (d′ .link) c′
     matches-left =
-        let same = same-setup (l .recorded) in
+        let same = same-link (l .recorded) in
         record {
-          address = ap (λ (s : Setup). s .address) same ∙ m .address ∙ ap (λ (x : Chip). x .address) (sym (l .chip));
-          check = ap (λ (s : Setup). s .check) same ∙ m .check ∙ ap (λ (x : Chip). x .check) (sym (l .chip));
-          size = ap (λ (x : Chip). length (x .regs)) (l .chip) ∙ length-left six′ (c .regs) (m .size) (six-few choose config c) (l .on) (l .new);
+          address = ap (λ (s : Link). s .address) same ∙ m .address ∙ ap (λ (x : Chip). x .address) (sym (l .chip));
+          check = ap (λ (s : Link). s .check) same ∙ m .check ∙ ap (λ (x : Chip). x .check) (sym (l .chip));
+          size =
+              ap (λ (x : Chip). length (x .regs)) (l .chip)
+              ∙ length-left six′ (c .regs) (m .size) most (l .on) (l .new);
         }
 
     above : (i : ℕ) → 12 ≤ i → getD (c′ .regs) i 0 ≡ getD (c .regs) i 0
-    above i h = ap (λ (x : Chip). getD (x .regs) i 0) (l .chip) ∙ left-above six′ (c .regs) (m .size) (six-few choose config c) (l .on) (l .new) i h
+    above i h =
+        ap (λ (x : Chip). getD (x .regs) i 0) (l .chip)
+        ∙ left-above six′ (c .regs) (m .size) most (l .on) (l .new) i h
 
     pub same-calibration : calibrationOf c′ ≡ calibrationOf c
     same-calibration =
@@ -114,26 +142,27 @@ module _ {choose : Config → Answer InMv} {config : Config} {d : BQ769x0} {c : 
         let e = above 0x59 (omega arith) in
         λ i. calibration (a i) (b i) (e i)
 
+    abbrev planBy : AdcTransferFunction → Answer Planned
+    planBy adc = choose config >>= λ steps. planFor (adc .gain) (adc .offset) config (steps .scd) (steps .ocd)
+
     pub same-plan : planOn choose config c′ ≡ planOn choose config c
     unfolding planOn
-    same-plan =
-        ap (λ (adc : AdcTransferFunction). choose config >>= λ steps. planFor (adc .gain) (adc .offset) config (steps .scd) (steps .ocd))
-        same-calibration
+    same-plan = ap planBy same-calibration
 
     -- with a first part of the six written over it
-    pub more-left : (k : ℕ) → k ≤ length six′ → withRegs c′ (put (c′ .regs) 6 (take k six′)) ≡ chipLeft choose config c (l .on) (max (l .new) k)
+    pub more-left : (k : ℕ) → k ≤ length six′
+        → withRegs c′ (put (c′ .regs) 6 (take k six′)) ≡ chipLeft choose config c (l .on) (max (l .new) k)
     more-left k h =
         ap (λ (x : Chip). withRegs x (put (x .regs) 6 (take k six′))) (l .chip)
-        ∙ ap (withRegs c) (left-more six′ (c .regs) (m .size) (six-few choose config c) (l .on) (l .new) k (l .last) (l .few) h)
+        ∙ ap (withRegs c) (left-more six′ (c .regs) (m .size) most (l .on) (l .new) k (l .last) (l .few) h)
 
-    pub more-new : (k : ℕ) → k ≤ length six′ → Leaves choose config d c d′ (withRegs c′ (put (c′ .regs) 6 (take k six′)))
-    more-new k h =
-        let few = six-few choose config c in
-        record {
-          new = max (l .new) k;
-          on = l .on;
-          few = omega (arith, l .few);
-          last = λ e. omega (arith, l .last e, l .few);
-          chip = more-left k h;
-          recorded = more-recorded k (omega arith) (l .recorded);
-        }
+    pub more-new : (k : ℕ) → k ≤ length six′
+        → Leaves choose config d c d′ (withRegs c′ (put (c′ .regs) 6 (take k six′)))
+    more-new k h = record {
+      new = max (l .new) k;
+      on = l .on;
+      few = omega (arith, l .few);
+      last = λ e. omega (arith, l .last e, l .few, most);
+      chip = more-left k h;
+      recorded = more-recorded k (omega (arith, most)) (l .recorded);
+    }

@@ -1,14 +1,14 @@
--- An `init` on a sound bus of a configuration that is accepted: the values answered, the record calibrated and marked with the new shunt, and on the
--- chip the six bytes new, bit 6 of 05 set, and nothing else changed.
+-- An `init` on a sound bus of a configuration that is accepted: the values answered, the record calibrated and marked
+-- with the new shunt, and on the chip the six bytes new, bit 6 of 05 set, and nothing else changed.
 -- Assumes nothing.
 use mathlib.Core.Path.{_≡_, ap, ap₂, _∙_}
 use mathlib.Core.Bool.{true}
 use Rattle.refusals.specs.Refusal.{Answer, value}
-use Rattle.settings.specs.Steps.{InMv}
-use Rattle.settings.specs.Plan.{Values, Planned, asInit}
-use Rattle.settings.specs.declared.Config.{Config}
-use Rattle.settings.proofs.Accepted.{first}
-use Rattle.bq769x0.specs.Record.{Left, isSound, setupOf, withCalibration, withShunt}
+use Rattle.plan.specs.Steps.{InMv}
+use Rattle.plan.specs.Plan.{Values, Planned, asInit}
+use Rattle.plan.specs.declared.Config.{Config}
+use Rattle.plan.proofs.Accepted.{first}
+use Rattle.bq769x0.specs.Record.{Left, isSound, withCalibration, withShunt}
 use Rattle.bq769x0.specs.Init.{initBy}
 use Rattle.bq769x0.specs.declared.BQ769x0.{BQ769x0}
 use Rattle.chip.specs.Chip.{withRegs}
@@ -20,7 +20,8 @@ use Rattle.recovery.specs.Runs.{Run, leftBy}
 use Rattle.recovery.proofs.Whole.{ends, whole}
 use Rattle.recovery.proofs.ByLog.{as-on-chip, left-by-log}
 
-module _ {choose : Config → Answer InMv} {config : Config} {d : BQ769x0} {c : Chip} (ok : isSound d ≡ true) (m : Matches (setupOf d) c)
+module _ {choose : Config → Answer InMv} {config : Config} {d : BQ769x0} {c : Chip}
+    (ok : isSound d ≡ true) (m : Matches (d .link) c)
     (run : Run choose config d (uncut c)) (plan : Planned) (accepted : planOn choose config c ≡ value plan) where
   set-up : (steps : InMv) × (onChip (initBy choose d config) (uncut c) ≡ ends config d c (value steps) (value plan))
   unfolding planOn
@@ -29,10 +30,14 @@ module _ {choose : Config → Answer InMv} {config : Config} {d : BQ769x0} {c : 
       (steps .0, whole choose config d c ok m ∙ ap₂ (ends config d c) (steps .1 .0) accepted)
 
   pub answers : asInit (run .gave .answer) ≡ value (plan .values)
-  answers = ap (λ (l : Left Values). l .answer) (as-on-chip run) ∙ ap (λ (r : Reached Wired (Left Values)). r .answer .answer) (set-up .1)
+  answers =
+      ap (λ (l : Left Values). l .answer) (as-on-chip run)
+      ∙ ap (λ (r : Reached Wired (Left Values)). r .answer .answer) (set-up .1)
 
   pub records : run .gave .device ≡ withShunt (withCalibration d (calibrationOf c)) (config .shunt)
-  records = ap (λ (l : Left Values). l .device) (as-on-chip run) ∙ ap (λ (r : Reached Wired (Left Values)). r .answer .device) (set-up .1)
+  records =
+      ap (λ (l : Left Values). l .device) (as-on-chip run)
+      ∙ ap (λ (r : Reached Wired (Left Values)). r .answer .device) (set-up .1)
 
   pub sets : leftBy run ≡ withRegs c (counted (firstNew 6 (plan .regs) (c .regs)))
   sets = left-by-log run ∙ ap (λ (r : Reached Wired (Left Values)). r .device .chip) (set-up .1)

@@ -10,10 +10,10 @@ use Rattle.refusals.specs.Refusal.{Answer, value, refused}
 use Rattle.adc.specs.Registers.{calibration}
 use Rattle.adc.specs.declared.transfer.AdcTransferFunction.{AdcTransferFunction}
 use Rattle.frames.specs.Put.{put}
-use Rattle.settings.specs.Order.{_>>=_}
-use Rattle.settings.specs.Steps.{InMv}
-use Rattle.settings.specs.Plan.{Planned, planFor}
-use Rattle.settings.specs.declared.Config.{Config}
+use Rattle.plan.specs.Order.{_>>=_}
+use Rattle.plan.specs.Steps.{InMv}
+use Rattle.plan.specs.Plan.{Planned, planFor}
+use Rattle.plan.specs.declared.Config.{Config}
 use Rattle.bus.specs.Fields.{if_then_else_}
 use Rattle.bq769x0.specs.Record.{accepts, withCalibration, withShunt}
 use Rattle.bq769x0.specs.declared.BQ769x0.{BQ769x0}
@@ -59,7 +59,8 @@ module _ (choose : Config → Answer InMv) (config : Config) (c : Chip) where
   chipLeft on n = withRegs c (regsLeft on n six (c .regs))
 
 module _ (choose : Config → Answer InMv) (config : Config) (d : BQ769x0) (c : Chip) where
-  -- the record as it was; or with the chip's calibration, if the steps were chosen; or with the mark and the new shunt too, all six being new
+  -- the record as it was; or with the chip's calibration, if the steps were chosen; or with the mark and the new shunt
+  -- too, all six being new
   pub data Recorded : ℕ → BQ769x0 → Type 0 where
     as-it-was : {n : ℕ} → Recorded n d
     calibrated : {n : ℕ} → accepts (choose config) ≡ true → Recorded n (withCalibration d (calibrationOf c))

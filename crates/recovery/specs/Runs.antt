@@ -7,9 +7,9 @@ use mathlib.Core.Option.{Option, none, some}
 use Prim.Native.Nat.{ℕ, _+_, _-_, _≤_}
 use lib.ListN.{length, take, drop}
 use Rattle.refusals.specs.Refusal.{Answer}
-use Rattle.settings.specs.Steps.{InMv}
-use Rattle.settings.specs.Plan.{asInit}
-use Rattle.settings.specs.declared.Config.{Config}
+use Rattle.plan.specs.Steps.{InMv}
+use Rattle.plan.specs.Plan.{asInit}
+use Rattle.plan.specs.declared.Config.{Config}
 use Rattle.bus.specs.Fields.{if_then_else_}
 use Rattle.bus.specs.Transfers.{Transfer, busOf}
 use Rattle.bus.specs.Programs.{onTape, ran}
@@ -18,7 +18,7 @@ use Rattle.bus.specs.Decoders.{transfersIn}
 use Rattle.bq769x0.specs.Record.{leaves}
 use Rattle.bq769x0.specs.Init.{initBy}
 use Rattle.bq769x0.specs.declared.BQ769x0.{BQ769x0}
-use Rattle.bq769x0.specs.declared.setting.Init.{Init}
+use Rattle.bq769x0.specs.declared.init.Init.{Init}
 use Rattle.chip.specs.Devices.{tapeOf}
 use Rattle.chip.specs.OnChip.{Wired, onWire, fed}
 use Rattle.chip.specs.declared.Chip.{Chip}
@@ -40,11 +40,12 @@ module _ (choose : Config → Answer InMv) (config : Config) where
     -- from its position on the tape goes as the chip answers, whatever comes then
     pub rest : List ℕ
     pub answers : drop (at .tape) tape ≡ tapeOf onWire (initBy choose d config) w ++ rest
-    pub room : at .log + enough (d .check) ≤ length log
+    pub room : at .log + enough (d .link .check) ≤ length log
     -- what the code gave back, and the log then
     pub gave : Init
     pub log′ : List ℕ
-    pub promise : ran (leaves (asInit (gave .answer)) (gave .device)) tape log′ (gave .at) ≡ onTape (initBy choose d config) (busOf tape log at)
+    pub promise : ran (leaves (asInit (gave .answer)) (gave .device)) tape log′ (gave .at)
+        ≡ onTape (initBy choose d config) (busOf tape log at)
 
 abbrev pub transfers : Option (List Transfer) → List Transfer
 transfers none = []
@@ -62,15 +63,17 @@ module _ {choose : Config → Answer InMv} {config : Config} {d : BQ769x0} {w : 
   abbrev pub leftBy : Chip
   leftBy = fed (w .cuts (length (transfers readBack) - 1)) (transfers readBack) (w .chip)
 
--- one run after another, each on a wire of its own, cut anywhere, from the record and the chip that the one before has left
+-- one run after another, each on a wire of its own, cut anywhere, from the record and the chip that the one before
+-- has left
 pub data Runs (choose : Config → Answer InMv) (config : Config) (d : BQ769x0) (c : Chip) : BQ769x0 → Chip → Type 0 where
   none-yet : Runs choose config d c d c
-  one-more : {d′ : BQ769x0} {c′ : Chip} → Runs choose config d c d′ c′ → (cuts : ℕ → Option ℕ) (run : Run choose config d′ (on c′ cuts))
+  one-more : {d′ : BQ769x0} {c′ : Chip} → Runs choose config d c d′ c′
+      → (cuts : ℕ → Option ℕ) (run : Run choose config d′ (on c′ cuts))
       → Runs choose config d c (run .gave .device) (leftBy run)
 
 -- two runs that end alike: in the answer, the record, and the chip with all its registers
-pub record Alike {choose : Config → Answer InMv} {config : Config} {d d′ : BQ769x0} {w w′ : Wired} (a : Run choose config d w) (b : Run choose config d′ w′)
-    : Type 0 where
+pub record Alike {choose : Config → Answer InMv} {config : Config} {d d′ : BQ769x0} {w w′ : Wired}
+    (a : Run choose config d w) (b : Run choose config d′ w′) : Type 0 where
   pub answer : a .gave .answer ≡ b .gave .answer
   pub device : a .gave .device ≡ b .gave .device
   pub chip : leftBy a ≡ leftBy b

@@ -5,11 +5,11 @@ use mathlib.Core.Bool.{Bool, true, false}
 use mathlib.Core.List.{List, [], _∷_}
 use lib.ListN.{length, getD}
 use lib.IntN.{ℤ, pos}
-use Rattle.signed.specs.Numbers.{asU32}
+use Rattle.numbers.specs.Numbers.{asU32}
 use Rattle.units.specs.declared.MilliVolts.{MilliVolts}
 use Rattle.refusals.specs.declared.Error.{Error}
 use Rattle.refusals.specs.declared.Error.the-variants as E
-use Rattle.refusals.specs.declared.Told.{Told}
+use Rattle.refusals.specs.declared.InNumbers.{InNumbers}
 
 pub record Refusal : Type 0 where
   pub number : ℕ
@@ -28,6 +28,15 @@ abbrev pub answering : {A B : Type 0} → Answer A → B → Answer B
 answering (value a) b = value b
 answering (refused r) b = refused r
 
+-- an unsound record
+abbrev pub nine : Refusal
+nine = no 9 []
+
+-- the refusal in an answer, to be handed on; a value has none, is never asked, and is given 9
+abbrev pub refusalIn : {A : Type 0} → Answer A → Refusal
+refusalIn (value a) = nine
+refusalIn (refused r) = r
+
 -- 0 where accepted, else the refusal's
 abbrev pub numberOf : {A : Type 0} → Answer A → ℕ
 numberOf (value a) = 0
@@ -38,32 +47,32 @@ abbrev pub refusedIf : {A : Type 0} → Bool → ℕ → Answer A → Answer A
 refusedIf true n answer = refused (no n [])
 refusedIf false n answer = answer
 
-abbrev pub told : Error → Refusal
-told E.CRCMismatch = no 1 []
-told E.I2CError = no 2 []
-told E.BufTooLarge = no 3 []
-told E.Uninitialized = no 4 []
-told (E.VerifyError reg) = no 5 (pos reg ∷ [])
-told E.OCDSCDRangeMismatch = no 6 []
-told (E.UVThresholdUnobtainable low high) = no 7 (pos (low .0) ∷ pos (high .0) ∷ [])
-told (E.OVThresholdUnobtainable low high) = no 8 (pos (low .0) ∷ pos (high .0) ∷ [])
-told E.BadDevice = no 9 []
-told E.BadCellCount = no 10 []
-told E.BadAddress = no 11 []
-told E.BadShunt = no 12 []
-told E.CurrentTooLarge = no 13 []
-told E.RegisterRunsOut = no 14 []
-told E.BadTape = no 15 []
-told E.TapeEnded = no 16 []
-told E.LogFull = no 17 []
-told E.UnknownFlags = no 18 []
-told E.NoRoom = no 19 []
-told E.UnknownRange = no 20 []
-told E.NoSuchInput = no 21 []
+abbrev pub asRefusal : Error → Refusal
+asRefusal E.CRCMismatch = no 1 []
+asRefusal E.I2CError = no 2 []
+asRefusal E.BufTooLarge = no 3 []
+asRefusal E.Uninitialized = no 4 []
+asRefusal (E.VerifyError reg) = no 5 (pos reg ∷ [])
+asRefusal E.OCDSCDRangeMismatch = no 6 []
+asRefusal (E.UVThresholdUnobtainable low high) = no 7 (pos (low .0) ∷ pos (high .0) ∷ [])
+asRefusal (E.OVThresholdUnobtainable low high) = no 8 (pos (low .0) ∷ pos (high .0) ∷ [])
+asRefusal E.BadDevice = no 9 []
+asRefusal E.BadCellCount = no 10 []
+asRefusal E.BadAddress = no 11 []
+asRefusal E.BadShunt = no 12 []
+asRefusal E.CurrentTooLarge = no 13 []
+asRefusal E.RegisterRunsOut = no 14 []
+asRefusal E.BadTape = no 15 []
+asRefusal E.TapeEnded = no 16 []
+asRefusal E.LogFull = no 17 []
+asRefusal E.UnknownFlags = no 18 []
+asRefusal E.NoRoom = no 19 []
+asRefusal E.UnknownRange = no 20 []
+asRefusal E.NoSuchInput = no 21 []
 
 -- the same as the code hands it on: the count of the figures, and zero for one that is not there
-abbrev pub asTold : Refusal → Told
-asTold r = record {
+abbrev pub inNumbers : Refusal → InNumbers
+inNumbers r = record {
   0 = r .number;
   1 = length (r .figures);
   2 = asU32 (getD (r .figures) 0 (pos 0));
@@ -98,5 +107,5 @@ cases first second =
     E.NoSuchInput ∷
     []
 
-abbrev pub caseOf : Told → Error
+abbrev pub caseOf : InNumbers → Error
 caseOf t = getD (cases (t .2) (t .3)) (t .0 - 1) E.CRCMismatch

@@ -5,6 +5,9 @@ use adc::counter;
 use adc::counter::CurrentAnswer;
 use adc::transfer::AdcTransferFunction;
 use adc::transfer::Asked;
+use plan::InitAnswer;
+use plan::Steps;
+use plan::six_bytes;
 use protection::delays::OVDelay;
 use protection::ocd::OCDStep;
 use protection::ocd::OCDThreshold;
@@ -12,9 +15,6 @@ use protection::range::Code;
 use protection::range::OCDSCDRange;
 use protection::scd::SCDStep;
 use protection::scd::SCDThreshold;
-use settings::InitAnswer;
-use settings::Steps;
-use settings::setup;
 use units::Amperes;
 use units::MicroOhms;
 use units::MilliVolts;
@@ -73,7 +73,7 @@ fn codes() {
 }
 
 fn current(high: u8, low: u8, shunt: u32) -> u32 {
-    match counter::current(signed::be_i16(high, low), MicroOhms(shunt)) {
+    match counter::current(numbers::be_i16(high, low), MicroOhms(shunt)) {
         CurrentAnswer::Flows(_) => 0,
         CurrentAnswer::Refused(e) => e.number() as u32,
     }
@@ -112,7 +112,7 @@ fn planned(gain: u16, shunt: u32) -> u32 {
         scd: SCDThreshold::_56mV,
         ocd: OCDThreshold::_22mV,
     };
-    let answer = setup::plan(adc_tf, config, steps).answer;
+    let answer = six_bytes::plan(adc_tf, config, steps).answer;
     match answer {
         InitAnswer::Ready(_) => 0,
         InitAnswer::Refused(e) => e.number() as u32,

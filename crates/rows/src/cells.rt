@@ -1,24 +1,24 @@
 // The cells of a BQ76930, by one reading in which input k holds 365 k mV: so each cell tells its input.
 use crate::print;
+use adc::transfer::AdcTransferFunction;
 use bq769x0::BQ769x0;
 use bus::Cursor;
+use bus::raw::Link;
 use measuring::cells;
 use units::MicroOhms;
-use units::MilliVolts;
 
 // At gain 365 and offset 0.
 fn device(cell_count: u8) -> BQ769x0 {
-    BQ769x0 {
-        x: 10,
-        dev_address: 8,
+    let link = Link {
+        address: 8,
         check: false,
-        init_complete: true,
-        adc_gain: 365,
-        adc_offset: 0,
-        shunt: MicroOhms(1000),
-        cell_count,
-        cells: [MilliVolts(0); 15],
-    }
+        x: 10,
+    };
+    let adc = AdcTransferFunction {
+        gain: 365,
+        offset: 0,
+    };
+    BQ769x0::of_parts(link, cell_count, adc, MicroOhms(1000), true)
 }
 
 // Readings 1000, 2000 up to 10000.

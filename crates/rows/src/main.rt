@@ -8,17 +8,17 @@ mod records;
 use adc::counter;
 use adc::counter::CurrentAnswer;
 use adc::transfer::AdcTransferFunction;
+use plan::Config;
+use plan::InitAnswer;
+use plan::Plan;
+use plan::StepsAnswer;
+use plan::six_bytes;
 use protection::delays::OCDDelay;
 use protection::delays::OVDelay;
 use protection::delays::SCDDelay;
 use protection::delays::UVDelay;
 use protection::scd::SCDStep;
 use protection::scd::SCDThreshold;
-use settings::Config;
-use settings::InitAnswer;
-use settings::Plan;
-use settings::StepsAnswer;
-use settings::setup;
 use units::Amperes;
 use units::MicroOhms;
 use units::MilliVolts;
@@ -65,7 +65,7 @@ fn planned(scd: u32, ocd: u32, uv: u32, ov: u32) -> Plan {
     };
     let config = config(1000, scd, ocd, uv, ov);
     match config.steps() {
-        StepsAnswer::Chosen(steps) => setup::plan(adc_tf, config, steps),
+        StepsAnswer::Chosen(steps) => six_bytes::plan(adc_tf, config, steps),
         StepsAnswer::Refused(e) => Plan {
             answer: InitAnswer::Refused(e),
             regs: [0, 0, 0, 0, 0, 0],
@@ -106,10 +106,10 @@ fn refused_row(name: &[u8], uv: u32, ov: u32, number: u32, low: u32, high: u32) 
     match answer {
         InitAnswer::Ready(_) => print::row(name, 0, number),
         InitAnswer::Refused(e) => {
-            let told = e.told();
-            print::row(name, told.0 as u32, number);
-            print::row(b"  low", told.2, low);
-            print::row(b"  high", told.3, high);
+            let numbers = e.in_numbers();
+            print::row(name, numbers.0 as u32, number);
+            print::row(b"  low", numbers.2, low);
+            print::row(b"  high", numbers.3, high);
         }
     }
 }
@@ -122,7 +122,7 @@ fn unobtainable() {
 }
 
 fn current() {
-    let said = counter::current(signed::be_i16(0xFF, 0xFF), MicroOhms(1000));
+    let said = counter::current(numbers::be_i16(0xFF, 0xFF), MicroOhms(1000));
     let CurrentAnswer::Flows(flow) = said else {
         return;
     };

@@ -1,22 +1,22 @@
 // The same about records, and about transfers over a tape and a log.
 use crate::print;
 use adc::counter::CurrentAnswer;
+use adc::transfer::AdcTransferFunction;
 use bq769x0::BQ769x0;
 use bq769x0::record::NewAnswer;
 use bus::Cursor;
+use bus::raw::Link;
 use bus::raw::RawAnswer;
-use bus::raw::Setup;
 use measuring::cells;
 use measuring::pack;
 use units::MicroOhms;
-use units::MilliVolts;
 
 // The status read from a log's begin.
-fn read_status(setup: Setup, log: &mut [u8]) -> u32 {
+fn read_status(link: Link, log: &mut [u8]) -> u32 {
     let mut data = [0u8; 1];
     let tape = [0x01, 0x00, 0x01, 0x80];
     let at = Cursor { tape: 0, log: 0 };
-    let answer = setup.read_raw(0x00, &mut data, &tape, log, at).answer;
+    let answer = link.read_raw(0x00, &mut data, &tape, log, at).answer;
     match answer {
         RawAnswer::Done => 0,
         RawAnswer::Refused(e) => e.number() as u32,
@@ -25,7 +25,7 @@ fn read_status(setup: Setup, log: &mut [u8]) -> u32 {
 
 fn transfers() {
     let mut log = [0u8; 7];
-    let far = Setup {
+    let far = Link {
         address: 128,
         check: false,
         x: 5,
@@ -35,7 +35,7 @@ fn transfers() {
         read_status(far, &mut log),
         9,
     );
-    let none = Setup {
+    let none = Link {
         address: 8,
         check: false,
         x: 6,
@@ -48,7 +48,7 @@ fn transfers() {
 }
 
 fn logs() {
-    let setup = Setup {
+    let link = Link {
         address: 8,
         check: false,
         x: 5,
@@ -56,30 +56,29 @@ fn logs() {
     let mut short = [0u8; 6];
     print::row(
         b"D27 a read with 6 bytes of log: refused",
-        read_status(setup, &mut short),
+        read_status(link, &mut short),
         17,
     );
     let mut log = [0u8; 7];
     print::row(
         b"D27 the same with 7: refused",
-        read_status(setup, &mut log),
+        read_status(link, &mut log),
         0,
     );
 }
 
 // A BQ76920 of five cells that is marked as initialised.
 fn marked(shunt: u32) -> BQ769x0 {
-    BQ769x0 {
-        x: 5,
-        dev_address: 8,
+    let link = Link {
+        address: 8,
         check: false,
-        init_complete: true,
-        adc_gain: 365,
-        adc_offset: 0,
-        shunt: MicroOhms(shunt),
-        cell_count: 5,
-        cells: [MilliVolts(0); 15],
-    }
+        x: 5,
+    };
+    let adc = AdcTransferFunction {
+        gain: 365,
+        offset: 0,
+    };
+    BQ769x0::of_parts(link, 5, adc, MicroOhms(shunt), true)
 }
 
 fn current(device: BQ769x0) -> u32 {
@@ -115,7 +114,7 @@ fn not_made() {
         NewAnswer::Refused(e) => e.number() as u32,
     };
     print::row(b"D30 new with X 6: refused", number, 9);
-    print::row(b"D30 X of the record it leaves", device.x as u32, 0);
+    print::row(b"D30 X of the record it leaves", device.link.x as u32, 0);
     print::row(b"D30 current of that record: refused", current(device), 9);
 }
 

@@ -1,9 +1,10 @@
--- The starred rows of the scope's table: what the definitions give, and what the table says. An answer is a list of numbers, or a refusal.
+-- The starred rows of the scope's table: what the definitions give, and what the table says. An answer is a list of
+-- numbers, or a refusal.
 -- Assumes nothing.
 use Prim.Native.Nat.{ℕ}
 use mathlib.Core.List.{List, [], _∷_, map}
 use lib.IntN.{ℤ, pos, negℤ}
-use Rattle.signed.specs.Numbers.{asU32, asI8, asI16, word}
+use Rattle.numbers.specs.Numbers.{asU32, asI8, asI16, word}
 use Rattle.refusals.specs.Refusal.{Answer, value, refused, no}
 use Rattle.protection.specs.declared.delays.SCDDelay.the-variants as S
 use Rattle.protection.specs.declared.delays.OCDDelay.the-variants as O
@@ -13,11 +14,11 @@ use Rattle.adc.specs.Registers.{gainOf}
 use Rattle.adc.specs.Conversion.{millivolts, milliamperes}
 use Rattle.measuring.specs.Cells.{inputsOf}
 use Rattle.check_byte.specs.CheckByte.{checkByte}
-use Rattle.settings.specs.Order.{_>>=_}
-use Rattle.settings.specs.Steps.{stepsFor}
-use Rattle.settings.specs.Plan.{Values, planFor}
-use Rattle.settings.specs.Fields.{Fields, readBack}
-use Rattle.settings.specs.declared.Config.{Config}
+use Rattle.plan.specs.Order.{_>>=_}
+use Rattle.plan.specs.Steps.{stepsFor}
+use Rattle.plan.specs.Plan.{Values, planFor}
+use Rattle.plan.specs.Fields.{Fields, readBack}
+use Rattle.plan.specs.declared.Config.{Config}
 
 abbrev pub Row : Type 0
 Row = Answer (List ℤ) × Answer (List ℤ)

@@ -30,7 +30,7 @@ pub fn number(n: u64) {
 
 // The same, of a number that may be below zero.
 pub fn signed_number(n: i32) {
-    let bits = signed::as_u32(n);
+    let bits = numbers::as_u32(n);
     if n < 0 {
         words(b" -");
         io::print_decimal(STDOUT_FILENO, std::num::wrapping_sub_u32(0, bits) as u64);
@@ -51,9 +51,13 @@ fn byte(bytes: &[u8], i: usize, k: usize) -> u8 {
 }
 
 fn four(bytes: &[u8], i: usize) -> u64 {
-    let high = byte(bytes, i, 0) as u64 * 256 + byte(bytes, i, 1) as u64;
-    let low = byte(bytes, i, 2) as u64 * 256 + byte(bytes, i, 3) as u64;
-    high * 65536 + low
+    let number = numbers::be_u32(
+        byte(bytes, i, 0),
+        byte(bytes, i, 1),
+        byte(bytes, i, 2),
+        byte(bytes, i, 3),
+    );
+    number as u64
 }
 
 // The number whose four bytes, high first, stand at place i.
@@ -77,7 +81,7 @@ fn field(log: &[u8], i: usize, size: usize) {
     } else {
         words(b"R");
         hex(byte(log, i, 4));
-        number(byte(log, i, 5) as u64 * 256 + byte(log, i, 6) as u64);
+        number(numbers::be_u16(byte(log, i, 5), byte(log, i, 6)) as u64);
     }
     words(b"\n");
 }
@@ -86,7 +90,7 @@ fn field(log: &[u8], i: usize, size: usize) {
 fn size(log: &[u8], i: usize) -> usize
     ensures { λ r. ⌜ 3 ≤ r ⌝ }
 {
-    3 + byte(log, i, 1) as usize * 256 + byte(log, i, 2) as usize
+    3 + numbers::be_u16(byte(log, i, 1), byte(log, i, 2)) as usize
 }
 
 fn least(a: usize, b: usize) -> usize {

@@ -2,7 +2,7 @@
 -- Assumes nothing.
 use mathlib.Core.Path.{_≡_, refl, ap}
 use Rattle.laws.proofs.Inverse.{one-to-one}
-use Rattle.refusals.proofs.Telling.{answerBack, untold-told}
+use Rattle.refusals.proofs.OneToOne.{answerBack, undone}
 use Rattle.wiring.specs.Questions.{asCell, asKnown, Listed, asInputs}
 use Rattle.wiring.specs.declared.questions.CellAnswer.{CellAnswer}
 use Rattle.wiring.specs.declared.questions.CellAnswer.the-variants as C
@@ -12,7 +12,7 @@ use Rattle.wiring.specs.declared.questions.Fitted.{Fitted}
 
 cell-undone : (a : CellAnswer) → answerBack C.Cell C.Refused (asCell a) ≡ a
 cell-undone (C.Cell cell) = refl
-cell-undone (C.Refused e) = ap C.Refused (untold-told e)
+cell-undone (C.Refused e) = ap C.Refused (undone e)
 
 -- `cell_on`
 pub cell-agree : (a b : CellAnswer) → asCell a ≡ asCell b → a ≡ b
@@ -20,11 +20,14 @@ cell-agree = one-to-one asCell (answerBack C.Cell C.Refused) cell-undone
 
 known-undone : (a : InputsAnswer) → answerBack (λ done. I.Listed) I.Refused (asKnown a) ≡ a
 known-undone I.Listed = refl
-known-undone (I.Refused e) = ap I.Refused (untold-told e)
+known-undone (I.Refused e) = ap I.Refused (undone e)
+
+known-agree : (a b : InputsAnswer) → asKnown a ≡ asKnown b → a ≡ b
+known-agree = one-to-one asKnown (answerBack (λ done. I.Listed) I.Refused) known-undone
 
 -- `inputs`
 pub inputs-agree : (r r′ : Fitted) → asInputs r ≡ asInputs r′ → r ≡ r′
 inputs-agree r r′ same =
-    let answers = one-to-one asKnown (answerBack (λ done. I.Listed) I.Refused) known-undone (r .answer) (r′ .answer) (ap (λ (x : Listed). x .answer) same) in
+    let answers = known-agree (r .answer) (r′ .answer) (ap (λ (x : Listed). x .answer) same) in
     let inputs = ap (λ (x : Listed). x .inputs) same in
     λ i. record { answer = answers i; inputs = inputs i }

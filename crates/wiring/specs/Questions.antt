@@ -5,7 +5,7 @@ use mathlib.Core.Bool.{cond}
 use mathlib.Core.List.{List, [], _∷_, _++_}
 use lib.Dec.{eqb}
 use lib.ListN.{replicate, take}
-use Rattle.refusals.specs.Refusal.{Answer, value, refused, no, told}
+use Rattle.refusals.specs.Refusal.{Answer, value, refused, no, asRefusal}
 use Rattle.wiring.specs.Sizes.{ofPack}
 use Rattle.wiring.specs.Tables.{fitted}
 use Rattle.wiring.specs.declared.questions.CellAnswer.{CellAnswer}
@@ -30,11 +30,11 @@ cellOn x n input = ofPack x n (cellFrom 1 (fitted x n) input)
 -- ---- as the code answers
 abbrev pub asCell : CellAnswer → Answer ℕ
 asCell (C.Cell cell) = value cell
-asCell (C.Refused e) = refused (told e)
+asCell (C.Refused e) = refused (asRefusal e)
 
 abbrev pub asKnown : InputsAnswer → Answer (Unit {0})
 asKnown I.Listed = value tt
-asKnown (I.Refused e) = refused (told e)
+asKnown (I.Refused e) = refused (asRefusal e)
 
 -- whether there is a list, and fifteen numbers
 pub record Listed : Type 0 where

@@ -2,7 +2,7 @@
 ghost use mathlib.Core.Path.{_≡_};
 ghost use Prim.Native.Nat.{_≤_};
 ghost use lib.ListN.{take};
-ghost use Rattle.refusals.specs.Refusal.{refused, told};
+ghost use Rattle.refusals.specs.Refusal.{refused, asRefusal};
 ghost use Rattle.wiring.specs.Questions.{inputsFor, asInputs, listed, cellFrom, cellOn, asCell};
 use crate::tables;
 use refusals::Error;
@@ -39,7 +39,7 @@ pub fn inputs(x: u8, cells: u8) -> Fitted
 }
 
 fn refuse(e: Error) -> Fitted
-    ensures { λ r. ⌜ asInputs r ≡ listed (refused (told e)) ⌝ }
+    ensures { λ r. ⌜ asInputs r ≡ listed (refused (asRefusal e)) ⌝ }
 {
     Fitted {
         answer: InputsAnswer::Refused(e),

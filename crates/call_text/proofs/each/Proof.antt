@@ -2,6 +2,7 @@
 use mathlib.Core.Path.{_≡_, sym, ap, _∙_}
 use Prim.Native.Nat.{ℕ, _-_}
 use native.Mathlib.Omega.{arith}
+use mathlib.Core.List.{List}
 use denote.Ref.{now}
 use lib.ListN.{length, drop}
 use borrow.Author.Needs.{needs}
@@ -17,11 +18,26 @@ Inv-loop input tape log₀ state₀ place₀ log state place = length log ≡ le
 abbrev μ-loop : tie.MeasureT-loop
 μ-loop input tape log₀ state₀ place₀ log state place = length input - place
 
-abbrev place : tie.After-known-told Inv-loop μ-loop → ℕ
-place c = c .before .before .before .before .before .loop .place
+-- ---- the places, each from a later one
+abbrev at-field : tie.After-known-told Inv-loop μ-loop → tie.After-field-at Inv-loop μ-loop
+at-field c = c .before .before .before
 
-field-is : (c : tie.After-known-told Inv-loop μ-loop) → fieldAt (place c) (drop (place c) (now (c .before .before .before .before .before .before .before .before .before .args .input))) ≡ value (c .before .found .given .0 .0)
-field-is c = sym (c .before .before .before .field-at .ensures) ∙ ap asField (c .before .found .given .1)
+abbrev at-known : tie.After-call Inv-loop μ-loop → tie.After-known-told Inv-loop μ-loop
+at-known c = c .before .before .before .before
+
+abbrev at-start : tie.After-slice-known Inv-loop μ-loop → tie.Start Inv-loop μ-loop
+at-start c = c .before .before .before
+
+-- the field at hand
+module _ (c : tie.After-known-told Inv-loop μ-loop) where
+  abbrev place : ℕ
+  place = at-field c .before .before .loop .place
+
+  abbrev input : List ℕ
+  input = now (at-start (at-field c .before .before .before) .args .input)
+
+  field-is : fieldAt place (drop place input) ≡ value (c .before .found .given .0 .0)
+  field-is = sym (at-field c .field-at .ensures) ∙ ap asField (c .before .found .given .1)
 
 loop-holds : tie.Need-loop-holds Inv-loop μ-loop
 loop-holds c = search needs
@@ -68,7 +84,7 @@ call-requires c κs = search needs
 
 loop-less : tie.Need-loop-less Inv-loop μ-loop
 loop-less c =
-    let s = starts _ _ _ (field-is (c .before .before .before .before .before .before)) in
+    let s = starts _ _ _ (field-is (at-known (c .before .before))) in
     omega arith
 
 loop-again : tie.Need-loop-again Inv-loop μ-loop

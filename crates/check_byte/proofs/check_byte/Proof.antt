@@ -1,8 +1,8 @@
 -- `check_byte::check_byte` meets its contract. The loop's invariant: `crc` is the check byte of the bytes passed.
 -- Assumes nothing.
 use mathlib.Core.Path.{_≡_, refl, _∙_, ap}
-use mathlib.Core.List.{[], _∷_, _++_}
-use Prim.Native.Nat.{_+_, _-_, _≤_, _<_}
+use mathlib.Core.List.{List, [], _∷_, _++_}
+use Prim.Native.Nat.{ℕ, _-_, _≤_, _<_}
 use native.Mathlib.Numerals.{add-one}
 use native.Mathlib.Omega.{arith}
 use lib.ListN.{length, take, getD}
@@ -20,6 +20,25 @@ Inv-loop «data» crc₀ i₀ crc i = (i ≤ length «data») × (crc < 256) × 
 abbrev μ-loop : tie.MeasureT-loop
 μ-loop «data» crc₀ i₀ crc i = length «data» - i
 
+-- ---- in the loop
+module _ (c : tie.After-more Inv-loop μ-loop) where
+  abbrev loop : tie.At-loop Inv-loop μ-loop
+  loop = c .before .before .before
+
+  abbrev bytes : List ℕ
+  bytes = loop .before .before .args .«data» .now
+
+  abbrev at : ℕ
+  at = loop .loop .i
+
+  -- the byte at i is taken in
+  taken : Leaves 10 (take at bytes ++ getD bytes at 0 ∷ []) (c .more .result)
+  taken =
+      more 8 _ (omega arith) (omega arith)
+      (c .before .shared-slice-known2 .given at .fits)
+      (known (loop .loop .inv .1) (loop .loop .inv .2))
+      (c .more .ensures)
+
 loop-holds : tie.Need-loop-holds Inv-loop μ-loop
 unfolding checkByte divide number
 loop-holds c = (search needs, search needs, refl)
@@ -33,17 +52,6 @@ shared-slice-read-more c = search needs
 more-requires : tie.Need-more-requires Inv-loop μ-loop
 more-requires c κs = search needs
 
--- the byte at i is taken in
-taken : (c : tie.After-more Inv-loop μ-loop)
-    → let m = c .before .before .before .before .before .args .«data» .now in
-    let i = c .before .before .before .loop .i in
-    Leaves 10 (take i m ++ getD m i 0 ∷ []) (c .more .result)
-taken c =
-    more 8 _ (omega arith) (omega arith)
-    (c .before .shared-slice-known2 .given (c .before .before .before .loop .i) .fits)
-    (known (c .before .before .before .loop .inv .1) (c .before .before .before .loop .inv .2))
-    (c .more .ensures)
-
 left-requires : tie.Need-left-requires Inv-loop μ-loop
 left-requires c κs = omega (arith, taken c .small)
 
@@ -55,13 +63,15 @@ loop-less c = search needs
 
 loop-again : tie.Need-loop-again Inv-loop μ-loop
 loop-again c =
-    let m = c .before .before .before .before .before .before .args .«data» .now in
-    let i = c .before .before .before .before .loop .i in
+    let i = at (c .before) in
+    let m = bytes (c .before) in
     let h : i < length m = search needs in
     (search needs, search needs, c .left .ensures ∙ taken (c .before) .left ∙ ap checkByte (rw (add-one, take-suc m i 0)))
 
 returns : tie.Need-returns Inv-loop μ-loop
-returns c = c .before .loop .inv .2 ∙ ap checkByte (take-all (c .before .loop .i) (now (c .before .before .before .args .«data»)) (search needs))
+returns c =
+    let m = now (c .before .before .before .args .«data») in
+    c .before .loop .inv .2 ∙ ap checkByte (take-all (c .before .loop .i) m (search needs))
 
 pub check-byte-spec : {M : Type 1} → statement M
 check-byte-spec =

@@ -18,10 +18,13 @@ number-requires : tie.Need-number-requires
 number-requires c κs = search needs
 
 returns : tie.Need-returns
-returns c = rw (sym (c .before .before .before .before .cell-on .ensures) ∙ ap asCell (c .before .before .k .given .1))
+returns c =
+    rw (sym (c .before .before .before .before .cell-on .ensures) ∙ ap asCell (c .before .before .k .given .1))
 
 returns-2 : tie.Need-returns-2
-returns-2 c = rw (c .number .ensures, sym (c .before .before .before .before .cell-on .ensures) ∙ ap asCell (c .before .before .e .given .1))
+returns-2 c =
+    let told = sym (c .before .before .before .before .cell-on .ensures) ∙ ap asCell (c .before .before .e .given .1) in
+    rw (c .number .ensures, told)
 
 pub bq769x0-cell-on-spec : {M : Type 1} → statement M
 bq769x0-cell-on-spec =

@@ -5,11 +5,19 @@ use borrow.Author.Needs.{needs}
 use Rattle.firmware.proofs.bq769x0_init.Statement.{statement}
 use Rattle.firmware.proofs.bq769x0_init.Tie as tie
 
+-- ---- the places, each from a later one
+abbrev at-laid : tie.After-number → tie.After-lay-out-arg
+at-laid c = c .before .before .before
+
+abbrev at-init : tie.After-lay-out-arg → tie.After-init
+at-init c = c .before .before .before .before
+
+-- ---- the needs
 init-requires : tie.Need-init-requires
 init-requires c κs = search needs
 
-figures-requires : tie.Need-figures-requires
-figures-requires c κs = search needs
+in-numbers-requires : tie.Need-in-numbers-requires
+in-numbers-requires c κs = search needs
 
 lay-out-requires : tie.Need-lay-out-requires
 lay-out-requires c κs = search needs
@@ -21,9 +29,11 @@ same-length : tie.Need-same-length
 same-length c = search needs
 
 returns : tie.Need-returns
-returns c = rw (c .number .ensures, c .before .lay-out .ensures, c .before .before .figures .ensures) (ap asC (c .before .before .before .before .before .before .before .init .ensures))
+returns c =
+    rw (c .number .ensures, c .before .lay-out .ensures, c .before .before .in-numbers .ensures)
+    (ap asC (at-init (at-laid c) .init .ensures))
 
 pub bq769x0-init-spec : {M : Type 1} → statement M
 bq769x0-init-spec =
     tie.close
-    (tie.spec init-requires figures-requires lay-out-requires number-requires same-length returns)
+    (tie.spec init-requires in-numbers-requires lay-out-requires number-requires same-length returns)

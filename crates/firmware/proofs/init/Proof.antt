@@ -1,14 +1,52 @@
 -- `firmware::init` meets its contract. Assumes nothing.
 use mathlib.Core.Path.{sym, ap, _∙_}
+use mathlib.Core.List.{List}
+use Prim.Native.Nat.{ℕ}
+use denote.Ref.{now}
 use Rattle.job.specs.Jobs.{asJob}
+use Rattle.bus.specs.Transfers.{Bus, busOf, start}
 use Rattle.bq769x0.specs.Record.{asMade}
-use Rattle.bus.proofs.Programs.{pure-on, pure-off}
-use Rattle.firmware.specs.JobInit.{jobInit}
-use Rattle.firmware.proofs.Stages.{made-is, unmade, none-made}
+use Rattle.firmware.proofs.Stages.{no-job, Made, made}
 use borrow.Author.Needs.{needs}
 use Rattle.firmware.proofs.init.Statement.{statement}
 use Rattle.firmware.proofs.init.Tie as tie
 
+-- ---- what is given
+module _ (s : tie.Start) where
+  abbrev bytes : List ℕ
+  bytes = now (s .args .job)
+
+  abbrev bus : Bus
+  bus = busOf (now (s .args .tape)) (now (s .args .log)) start
+
+-- ---- the places, each from a later one
+abbrev at-start : tie.After-parse → tie.Start
+at-start c = c .before .before .before .before
+
+abbrev at-parse : tie.After-parsed → tie.After-parse
+at-parse c = c .before .before
+
+abbrev at-parsed : tie.After-new2 → tie.After-parsed
+at-parsed c = c .before .before .before .before
+
+abbrev at-no-job : tie.After-refusal → tie.After-enum-told
+at-no-job c = c .before .before .before
+
+abbrev at-told : tie.After-slice-known2 → tie.After-enum-told2
+at-told c = c .before .before .before .before
+
+-- ---- after the device is made
+module _ (c : tie.After-new2) where
+  abbrev s : tie.Start
+  s = at-start (at-parse (at-parsed c))
+
+  after-new : Made (bytes s) (bus s)
+      (at-parsed c .parsed .given .0 .0) (asMade (c .new2 .result .answer)) (c .new2 .result .device)
+  after-new =
+      made (bytes s) (bus s) (at-parse (at-parsed c) .parse .ensures) (ap asJob (at-parsed c .parsed .given .1))
+      (c .new2 .ensures)
+
+-- ---- the needs
 parse-requires : tie.Need-parse-requires
 parse-requires c κs = search needs
 
@@ -21,14 +59,14 @@ enum-told c = search needs
 new-requires : tie.Need-new-requires
 new-requires c κs = search needs
 
-of-job-requires : tie.Need-of-job-requires
-of-job-requires c κs = search needs
+refusal-requires : tie.Need-refusal-requires
+refusal-requires c κs = search needs
 
 returns : tie.Need-returns
-unfolding jobInit
 returns c =
-    let t = ap asJob (c .before .before .before .enum-told .given .1) in
-    rw (c .of-job .ensures, t, none-made (c .before .before .new .ensures)) (sym (pure-off _ _ _ _ _ (sym (c .before .before .before .before .before .parse .ensures) ∙ t)))
+    let t = ap asJob (at-no-job c .enum-told .given .1) in
+    rw (c .refusal .ensures, t)
+    (sym (no-job _ _ (at-no-job c .before .before .parse .ensures) (c .before .before .new .ensures) t))
 
 new-requires-2 : tie.Need-new-requires-2
 new-requires-2 c κs = search needs
@@ -39,17 +77,13 @@ enum-told-2 c = search needs
 enum-told-3 : tie.Need-enum-told-3
 enum-told-3 c = search needs
 
-of-new-requires : tie.Need-of-new-requires
-of-new-requires c κs = search needs
+refusal-requires-2 : tie.Need-refusal-requires-2
+refusal-requires-2 c κs = search needs
 
 returns-2 : tie.Need-returns-2
-unfolding jobInit
 returns-2 c =
     let t = ap asMade (c .before .enum-told3 .given .1) in
-    let made = c .before .before .before .before .new2 .ensures in
-    rw (c .of-new .ensures, t, unmade _ _ _ _ _ made t) (sym (
-    pure-on _ _ _ _ _ (sym (c .before .before .before .before .before .before .before .before .before .before .parse .ensures) ∙ ap asJob (c .before .before .before .before .before .before .before .before .parsed .given .1))
-    ∙ pure-off _ _ _ _ _ (made-is _ made t)))
+    rw (c .refusal2 .ensures, t) (sym (after-new (c .before .before .before .before) .off t))
 
 init-requires : tie.Need-init-requires
 init-requires c κs = search needs
@@ -58,12 +92,9 @@ same-length : tie.Need-same-length
 same-length c = search needs
 
 returns-3 : tie.Need-returns-3
-unfolding jobInit
 returns-3 c =
     c .before .before .init .ensures
-    ∙ sym (
-    pure-on _ _ _ _ _ (sym (c .before .before .before .before .before .before .before .before .before .before .before .before .before .parse .ensures) ∙ ap asJob (c .before .before .before .before .before .before .before .before .before .before .before .parsed .given .1))
-    ∙ pure-on _ _ _ _ _ (made-is _ (c .before .before .before .before .before .before .before .new2 .ensures) (ap asMade (c .before .before .before .before .enum-told2 .given .1))))
+    ∙ sym (after-new (at-told c .before .before .before) .on (ap asMade (at-told c .enum-told2 .given .1)))
 
 pub init-spec : {M : Type 1} → statement M
 init-spec =
@@ -73,12 +104,12 @@ init-spec =
     enum-known-parsed
     enum-told
     new-requires
-    of-job-requires
+    refusal-requires
     returns
     new-requires-2
     enum-told-2
     enum-told-3
-    of-new-requires
+    refusal-requires-2
     returns-2
     init-requires
     same-length

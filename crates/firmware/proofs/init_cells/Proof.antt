@@ -1,13 +1,61 @@
 -- `firmware::init_cells` meets its contract. Assumes nothing.
-use mathlib.Core.Path.{sym, ap, _∙_}
-use Rattle.bus.specs.Programs.{onTape}
-use Rattle.settings.specs.Plan.{asInit}
-use Rattle.firmware.specs.JobCells.{jobCells}
-use Rattle.firmware.proofs.Reading.{bound}
+use mathlib.Core.Path.{_≡_, sym, ap, _∙_}
+use mathlib.Core.List.{List}
+use Prim.Native.Nat.{ℕ}
+use denote.Ref.{now}
+use Rattle.refusals.specs.Refusal.{Answer}
+use Rattle.plan.specs.Plan.{Values, asInit}
+use Rattle.bus.specs.Transfers.{Bus, busOf, start}
+use Rattle.bus.specs.Programs.{Ran, onTape}
+use Rattle.firmware.specs.JobCells.{Listed, onlyReady, jobCells}
+use Rattle.firmware.proofs.Reading.{after-init}
 use borrow.Author.Needs.{needs}
 use Rattle.firmware.proofs.init_cells.Statement.{statement}
 use Rattle.firmware.proofs.init_cells.Tie as tie
 
+-- ---- what is given, and what is to be done with it
+module _ (s : tie.Start) where
+  abbrev job : List ℕ
+  job = now (s .args .job)
+
+  abbrev list : List ℕ
+  list = now (s .args .list)
+
+  abbrev bus : Bus
+  bus = busOf (now (s .args .tape)) (now (s .args .log)) start
+
+  abbrev whole : Ran Listed
+  whole = onTape (jobCells job list) bus
+
+-- ---- the places, each from a later one
+abbrev at-start : tie.After-slice-known2 → tie.Start
+at-start c = c .before .before .before .before
+
+abbrev at-init : tie.After-device → tie.After-init
+at-init c = c .before .before .before
+
+abbrev at-done : tie.After-answer → tie.After-init
+at-done c = at-init (c .before .before .before)
+
+abbrev at-answer : tie.After-read-cells → tie.After-answer
+at-answer c = c .before .before .before .before
+
+abbrev at-read : tie.After-slice-known5 → tie.After-read-cells
+at-read c = c .before .before .before .before
+
+-- ---- after the init, by its answer
+module _ (c : tie.After-init) where
+  abbrev s : tie.Start
+  s = at-start (c .before .before)
+
+  left : {y : Answer Values} → asInit (c .init .result .answer) ≡ y
+      → whole s
+      ≡ onTape (onlyReady (list s) (c .init .result .device) y)
+      (busOf (bus s .tape) (c .init .last .1 .1 .0) (c .init .result .at))
+  unfolding jobCells
+  left = after-init (onlyReady (list s)) (job s) (bus s) (c .init .result) (c .init .ensures)
+
+-- ---- the needs
 init-requires : tie.Need-init-requires
 init-requires c κs = search needs
 
@@ -21,10 +69,10 @@ same-length : tie.Need-same-length
 same-length c = search needs
 
 returns : tie.Need-returns
-unfolding jobCells onTape
+unfolding onTape
 returns c =
     let t = ap asInit (c .enum-told .given .1) in
-    rw t (sym (bound _ _ _ (c .before .before .before .before .before .before .init .ensures) ∙ rw t))
+    rw t (sym (left (at-init (c .before .before .before)) t))
 
 read-cells-requires : tie.Need-read-cells-requires
 read-cells-requires c κs = search needs
@@ -36,10 +84,9 @@ same-length-3 : tie.Need-same-length-3
 same-length-3 c = search needs
 
 returns-2 : tie.Need-returns-2
-unfolding jobCells
 returns-2 c =
-    c .before .before .before .before .read-cells .ensures
-    ∙ sym (bound _ _ _ (c .before .before .before .before .before .before .before .before .before .before .before .before .before .before .init .ensures) ∙ rw (ap asInit (c .before .before .before .before .before .before .before .before .answer .given .1)))
+    at-read c .read-cells .ensures
+    ∙ sym (left (at-done (at-answer (at-read c))) (ap asInit (at-answer (at-read c) .answer .given .1)))
 
 pub init-cells-spec : {M : Type 1} → statement M
 init-cells-spec =

@@ -10,11 +10,17 @@ sub-n c = search needs
 
 carry-requires : tie.Need-carry-requires
 carry-requires c κs =
-    ⊎-elim (λ w. ((omega arith, omega arith), inl (omega arith))) (λ w. ((omega arith, omega arith), inr (omega arith))) (c .before .before .if1 .came)
+    ⊎-elim
+    (λ w. ((omega arith, omega arith), inl (omega arith)))
+    (λ w. ((omega arith, omega arith), inr (omega arith)))
+    (c .before .before .if1 .came)
 
 carry-requires-2 : tie.Need-carry-requires-2
 carry-requires-2 c κs =
-    ⊎-elim (λ w. ((omega arith, omega arith), inl (omega arith))) (λ w. ((omega arith, omega arith), inr (omega arith))) (c .before .before .if1 .came)
+    ⊎-elim
+    (λ w. ((omega arith, omega arith), inl (omega arith)))
+    (λ w. ((omega arith, omega arith), inr (omega arith)))
+    (c .before .before .if1 .came)
 
 same-length : tie.Need-same-length
 same-length c = search needs

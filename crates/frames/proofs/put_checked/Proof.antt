@@ -1,7 +1,8 @@
--- `frames::put_checked` meets its contract. The loop's invariant: with what is left of the frame in its place, `out` is as it has to be.
+-- `frames::put_checked` meets its contract. The loop's invariant: with what is left of the frame in its place, `out` is as
+-- it has to be.
 -- Assumes nothing.
 use mathlib.Core.Path.{_≡_, refl, sym, ap, _∙_}
-use mathlib.Core.List.{[], _∷_}
+use mathlib.Core.List.{List, [], _∷_, _++_}
 use Prim.Native.Nat.{ℕ, _+_, _*_, _-_, _≤_, _<_}
 use native.Mathlib.Omega.{arith}
 use lib.ListN.{length, drop, getD, length-set}
@@ -22,6 +23,33 @@ Inv-loop address reg «data» out₀ i₀ out i =
 
 abbrev μ-loop : tie.MeasureT-loop
 μ-loop address reg «data» out₀ i₀ out i = length «data» - i
+
+-- ---- after the first byte
+module _ (c : tie.After-check-byte3 Inv-loop μ-loop) where
+  abbrev left : tie.Else1 Inv-loop μ-loop
+  left = c .before .before .before
+
+  abbrev start : tie.Start Inv-loop μ-loop
+  start = left .before .before .before
+
+  abbrev head : List ℕ
+  head = writeByte (start .args .address) ∷ start .args .reg ∷ []
+
+  abbrev bytes : List ℕ
+  bytes = start .args .«data» .now
+
+  abbrev out : List ℕ
+  out = start .args .out .now
+
+  -- its check byte covers the address byte and the register
+  first : c .check-byte3 .result ≡ checkByte (head ++ getD bytes 0 0 ∷ [])
+  first =
+      c .check-byte3 .ensures
+      ∙ ap (λ (x : ℕ). checkByte (x ∷ start .args .reg ∷ getD bytes 0 0 ∷ [])) (shifted (start .args .address))
+
+-- ---- the loop, from its end
+abbrev at-loop : tie.After-check-byte1 Inv-loop μ-loop → tie.At-loop Inv-loop μ-loop
+at-loop c = c .before .before .before
 
 returns : tie.Need-returns Inv-loop μ-loop
 returns c =
@@ -78,12 +106,13 @@ loop-less c = search needs
 
 loop-again : tie.Need-loop-again Inv-loop μ-loop
 loop-again c =
-    let t = c .before .before .before in
-    let bytes = t .before .before .before .before .before .before .before .args .«data» .now in (
-      stored [] bytes (t .loop .out) (t .loop .i) (c .check-byte1 .result) (search needs) (omega arith) (c .check-byte1 .ensures) ∙ t .loop .inv .0,
+    let l = at-loop c .loop in (
+      stored [] (bytes (at-loop c .before)) (l .out) (l .i) (c .check-byte1 .result) (search needs) (omega arith)
+          (c .check-byte1 .ensures)
+          ∙ l .inv .0,
       search needs,
-      simp length-set (t .loop .inv .2),
-      simp length-set (simp length-set at (t .loop .inv .3)),
+      simp length-set (l .inv .2),
+      simp length-set (simp length-set at (l .inv .3)),
     )
 
 same-length : tie.Need-same-length Inv-loop μ-loop
@@ -91,13 +120,11 @@ same-length c = c .before .loop .inv .3 ∙ simp length-set
 
 returns-2 : tie.Need-returns-2 Inv-loop μ-loop
 returns-2 c =
-    let t = c .before in
-    let a = t .before .before .before .before .before .before .before .args in
-    let bytes = a .«data» .now in
-    sym (stored-all [] bytes (t .loop .out) (t .loop .i) (2 * t .loop .i + 1) (search needs))
-    ∙ t .loop .inv .0
-    ∙ stored (writeByte (a .address) ∷ a .reg ∷ []) bytes (a .out .now) 0 (t .before .check-byte3 .result) (omega arith) (omega arith)
-    (t .before .check-byte3 .ensures ∙ ap (λ (x : ℕ). checkByte (x ∷ a .reg ∷ getD bytes 0 0 ∷ [])) (shifted (a .address)))
+    let l = c .before .loop in
+    let b = c .before .before in
+    sym (stored-all [] (bytes b) (l .out) (l .i) (2 * l .i + 1) (search needs))
+    ∙ l .inv .0
+    ∙ stored (head b) (bytes b) (out b) 0 (b .check-byte3 .result) (omega arith) (omega arith) (first b)
 
 pub put-checked-spec : {M : Type 1} → statement M
 put-checked-spec =

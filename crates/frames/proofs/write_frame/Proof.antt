@@ -13,6 +13,9 @@ use Rattle.frames.proofs.Steps.{sent}
 use Rattle.frames.proofs.write_frame.Statement.{statement}
 use Rattle.frames.proofs.write_frame.Tie as tie
 
+abbrev at-start : tie.Else1 → tie.Start
+at-start c = c .before .before
+
 returns : tie.Need-returns
 returns c =
     let a = c .before .before .args in
@@ -40,16 +43,16 @@ add-result-2 c = search needs
 returns-2 : tie.Need-returns-2
 unfolding framed
 returns-2 c =
-    let a = c .before .before .before .before .before .args in
-    sent (a .check) true (a .address) (a .reg) (a .«data» .now) (a .out .now) _ _ (c .before .before .if2 .taken) (search needs) (search needs) (omega arith)
-    (c .put-checked .ensures)
+    let a = at-start (c .before .before .before) .args in
+    sent (a .check) true (a .address) (a .reg) (a .«data» .now) (a .out .now) _ _ (c .before .before .if2 .taken)
+    (search needs) (search needs) (omega arith) (c .put-checked .ensures)
 
 returns-3 : tie.Need-returns-3
 unfolding framed
 returns-3 c =
-    let a = c .before .before .before .before .before .args in
-    sent (a .check) false (a .address) (a .reg) (a .«data» .now) (a .out .now) _ _ (c .before .before .if2 .left) (search needs) (search needs) (omega arith)
-    (c .put-alone .ensures)
+    let a = at-start (c .before .before .before) .args in
+    sent (a .check) false (a .address) (a .reg) (a .«data» .now) (a .out .now) _ _ (c .before .before .if2 .left)
+    (search needs) (search needs) (omega arith) (c .put-alone .ensures)
 
 pub write-frame-spec : {M : Type 1} → statement M
 write-frame-spec =

@@ -1,10 +1,67 @@
 -- `job::config_of` meets its contract. Assumes nothing.
+use mathlib.Core.Path.{_≡_}
+use mathlib.Core.List.{List}
+use Prim.Native.Nat.{ℕ, _+_}
+use Rattle.protection.specs.declared.delays.SCDDelay.{SCDDelay}
+use Rattle.protection.specs.declared.delays.OCDDelay.{OCDDelay}
+use Rattle.protection.specs.declared.delays.UVDelay.{UVDelay}
+use Rattle.protection.specs.declared.delays.OVDelay.{OVDelay}
+use Rattle.plan.specs.declared.Config.{Config}
+use Rattle.job.specs.Jobs.{byteAt, numberAt, configAt}
+use Rattle.job.specs.Delays.{scdAt, ocdAt, uvAt, ovAt}
+use denote.Ref.{now}
 use borrow.Author.Needs.{needs}
 use Rattle.job.proofs.config_of.Statement.{statement}
 use Rattle.job.proofs.config_of.Tie as tie
 
-be-u32-requires : tie.Need-be-u32-requires
-be-u32-requires c κs = search needs
+-- the configuration of five numbers and four delays
+abbrev made : (shunt scd ocd uv ov : ℕ) → SCDDelay → OCDDelay → UVDelay → OVDelay → Config
+made shunt scd ocd uv ov scd-delay ocd-delay uv-delay ov-delay = record {
+  shunt = record { 0 = shunt };
+  «scd_threshold» = record { 0 = scd };
+  «ocd_threshold» = record { 0 = ocd };
+  «uv_threshold» = record { 0 = uv };
+  «ov_threshold» = record { 0 = ov };
+  «scd_delay» = scd-delay;
+  «ocd_delay» = ocd-delay;
+  «uv_delay» = uv-delay;
+  «ov_delay» = ov-delay;
+}
+
+-- ---- the law, over any results of the calls: each assumption is what one call ensures
+module _ (bytes : List ℕ) (at : ℕ) where
+  made-is : {shunt scd ocd uv ov : ℕ}
+      {scd-delay : SCDDelay} {ocd-delay : OCDDelay} {uv-delay : UVDelay} {ov-delay : OVDelay}
+      → shunt ≡ numberAt bytes at
+      → scd-delay ≡ scdAt (byteAt bytes (at + 20))
+      → scd ≡ numberAt bytes (at + 4)
+      → ocd-delay ≡ ocdAt (byteAt bytes (at + 21))
+      → ocd ≡ numberAt bytes (at + 8)
+      → uv-delay ≡ uvAt (byteAt bytes (at + 22))
+      → uv ≡ numberAt bytes (at + 12)
+      → ov-delay ≡ ovAt (byteAt bytes (at + 23))
+      → ov ≡ numberAt bytes (at + 16)
+      → made shunt scd ocd uv ov scd-delay ocd-delay uv-delay ov-delay ≡ configAt bytes at
+  made-is e₀ e₁ e₂ e₃ e₄ e₅ e₆ e₇ e₈ = rw (e₀, e₁, e₂, e₃, e₄, e₅, e₆, e₇, e₈)
+
+-- ---- the places where a threshold is read, each from the next: its delay is read just before
+abbrev at-uv : tie.After-number-at5 → tie.After-number-at4
+at-uv c = c .before .before .before
+
+abbrev at-ocd : tie.After-number-at5 → tie.After-number-at3
+at-ocd c = at-uv c .before .before .before
+
+abbrev at-scd : tie.After-number-at5 → tie.After-number-at2
+at-scd c = at-ocd c .before .before .before
+
+abbrev at-shunt : tie.After-number-at5 → tie.After-number-at
+at-shunt c = at-scd c .before .before .before
+
+abbrev at-start : tie.After-number-at5 → tie.Start
+at-start c = at-shunt c .before .before
+
+number-at-requires : tie.Need-number-at-requires
+number-at-requires c κs = search needs
 
 add-scd-delay : tie.Need-add-scd-delay
 add-scd-delay c = search needs
@@ -15,11 +72,11 @@ shared-slice-read-scd-delay c = search needs
 scd-delay-requires : tie.Need-scd-delay-requires
 scd-delay-requires c κs = search needs
 
-add-be-u32 : tie.Need-add-be-u32
-add-be-u32 c = search needs
+add-number-at : tie.Need-add-number-at
+add-number-at c = search needs
 
-be-u32-requires-2 : tie.Need-be-u32-requires-2
-be-u32-requires-2 c κs = search needs
+number-at-requires-2 : tie.Need-number-at-requires-2
+number-at-requires-2 c κs = search needs
 
 add-ocd-delay : tie.Need-add-ocd-delay
 add-ocd-delay c = search needs
@@ -30,11 +87,11 @@ shared-slice-read-ocd-delay c = search needs
 ocd-delay-requires : tie.Need-ocd-delay-requires
 ocd-delay-requires c κs = search needs
 
-add-be-u32-2 : tie.Need-add-be-u32-2
-add-be-u32-2 c = search needs
+add-number-at-2 : tie.Need-add-number-at-2
+add-number-at-2 c = search needs
 
-be-u32-requires-3 : tie.Need-be-u32-requires-3
-be-u32-requires-3 c κs = search needs
+number-at-requires-3 : tie.Need-number-at-requires-3
+number-at-requires-3 c κs = search needs
 
 add-uv-delay : tie.Need-add-uv-delay
 add-uv-delay c = search needs
@@ -45,11 +102,11 @@ shared-slice-read-uv-delay c = search needs
 uv-delay-requires : tie.Need-uv-delay-requires
 uv-delay-requires c κs = search needs
 
-add-be-u32-3 : tie.Need-add-be-u32-3
-add-be-u32-3 c = search needs
+add-number-at-3 : tie.Need-add-number-at-3
+add-number-at-3 c = search needs
 
-be-u32-requires-4 : tie.Need-be-u32-requires-4
-be-u32-requires-4 c κs = search needs
+number-at-requires-4 : tie.Need-number-at-requires-4
+number-at-requires-4 c κs = search needs
 
 add-ov-delay : tie.Need-add-ov-delay
 add-ov-delay c = search needs
@@ -60,49 +117,48 @@ shared-slice-read-ov-delay c = search needs
 ov-delay-requires : tie.Need-ov-delay-requires
 ov-delay-requires c κs = search needs
 
-add-be-u32-4 : tie.Need-add-be-u32-4
-add-be-u32-4 c = search needs
+add-number-at-4 : tie.Need-add-number-at-4
+add-number-at-4 c = search needs
 
-be-u32-requires-5 : tie.Need-be-u32-requires-5
-be-u32-requires-5 c κs = search needs
+number-at-requires-5 : tie.Need-number-at-requires-5
+number-at-requires-5 c κs = search needs
 
 returns : tie.Need-returns
 returns c =
-    rw (
-      c .be-u325 .ensures,
-      c .before .ov-delay .ensures,
-      c .before .before .before .be-u324 .ensures,
-      c .before .before .before .before .uv-delay .ensures,
-      c .before .before .before .before .before .before .be-u323 .ensures,
-      c .before .before .before .before .before .before .before .ocd-delay .ensures,
-      c .before .before .before .before .before .before .before .before .before .be-u322 .ensures,
-      c .before .before .before .before .before .before .before .before .before .before .scd-delay .ensures,
-      c .before .before .before .before .before .before .before .before .before .before .before .before .be-u32 .ensures,
-    )
+    made-is (now (at-start c .args .job)) (at-start c .args .at)
+    (at-shunt c .number-at .ensures)
+    (at-scd c .before .scd-delay .ensures)
+    (at-scd c .number-at2 .ensures)
+    (at-ocd c .before .ocd-delay .ensures)
+    (at-ocd c .number-at3 .ensures)
+    (at-uv c .before .uv-delay .ensures)
+    (at-uv c .number-at4 .ensures)
+    (c .before .ov-delay .ensures)
+    (c .number-at5 .ensures)
 
 pub config-of-spec : {M : Type 1} → statement M
 config-of-spec =
     tie.close
     (tie.spec
-    be-u32-requires
+    number-at-requires
     add-scd-delay
     shared-slice-read-scd-delay
     scd-delay-requires
-    add-be-u32
-    be-u32-requires-2
+    add-number-at
+    number-at-requires-2
     add-ocd-delay
     shared-slice-read-ocd-delay
     ocd-delay-requires
-    add-be-u32-2
-    be-u32-requires-3
+    add-number-at-2
+    number-at-requires-3
     add-uv-delay
     shared-slice-read-uv-delay
     uv-delay-requires
-    add-be-u32-3
-    be-u32-requires-4
+    add-number-at-3
+    number-at-requires-4
     add-ov-delay
     shared-slice-read-ov-delay
     ov-delay-requires
-    add-be-u32-4
-    be-u32-requires-5
+    add-number-at-4
+    number-at-requires-5
     returns)

@@ -5,6 +5,9 @@ use borrow.Author.Needs.{needs}
 use Rattle.jobtests.proofs.take.Statement.{statement}
 use Rattle.jobtests.proofs.take.Tie as tie
 
+abbrev at-start : tie.After-shared-slice-known2 → tie.Start
+at-start c = c .before .before .before .before
+
 returns : tie.Need-returns
 returns c = search needs
 
@@ -15,7 +18,7 @@ slice-reshare-prefix-print : tie.Need-slice-reshare-prefix-print
 slice-reshare-prefix-print c = search needs
 
 slice-aggregate-print : tie.Need-slice-aggregate-print
-slice-aggregate-print c = sym (length-take-le _ _ (c .before .before .before .before .before .before .pre))
+slice-aggregate-print c = sym (length-take-le _ _ (at-start (c .before .before) .pre))
 
 print-requires : tie.Need-print-requires
 print-requires c κs = search needs

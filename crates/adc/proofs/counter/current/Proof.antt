@@ -10,8 +10,8 @@ use lib.Signed.{natAbs-le}
 use mir.Syntax.{w16, w32}
 use mir.Val.{SFits, toZ}
 use mir.Facts.{toZ-pos}
-use Rattle.signed.specs.Numbers.{_÷_}
-use Rattle.signed.proofs.Signed.{signed, sized, size-mul, size-div}
+use Rattle.numbers.specs.Numbers.{_÷_}
+use Rattle.numbers.proofs.Signed.{signed, sized, size-mul, size-div}
 use Rattle.refusals.specs.Refusal.{value}
 use Rattle.adc.proofs.counter.current.Statement.{statement}
 use Rattle.adc.proofs.counter.current.Tie as tie

@@ -11,8 +11,8 @@ use lib.Signed.{mag}
 use mir.Syntax.{w16, w64}
 use mir.Val.{SFits, Fits, toZ, ofZ}
 use mir.Facts.{toZ-ofZ}
-use Rattle.signed.specs.Numbers.{_÷↓_, _%↓_}
-use Rattle.signed.proofs.Signed.{is-below, is-natural, less-one, one-more, read16}
+use Rattle.numbers.specs.Numbers.{_÷↓_, _%↓_}
+use Rattle.numbers.proofs.Signed.{is-below, is-natural, less-one, one-more, read16}
 use Rattle.adc.proofs.round.floor_div.Statement.{statement}
 use Rattle.adc.proofs.round.floor_div.Tie as tie
 

@@ -9,8 +9,8 @@ use lib.Signed.{natAbs-le}
 use mir.Syntax.{w32, w64}
 use mir.Val.{SFits, toZ}
 use mir.Facts.{toZ-pos, toZ-ofZ, sfits-widen}
-use Rattle.signed.specs.Numbers.{_÷_}
-use Rattle.signed.proofs.Signed.{signed, sized, size-add, size-mul, size-div, quot-div, read32}
+use Rattle.numbers.specs.Numbers.{_÷_}
+use Rattle.numbers.proofs.Signed.{signed, sized, size-add, size-mul, size-div, quot-div, read32}
 use Rattle.adc.proofs.transfer.per_thousand.Statement.{statement}
 use Rattle.adc.proofs.transfer.per_thousand.Tie as tie
 
@@ -22,7 +22,8 @@ whole c = pos (c .args .up) +ℤ part c
 
 part≤ : (c : tie.Start) → natAbs (part c) ≤ 128 * 255000
 part≤ c =
-    let p : natAbs (c .args .offset) * c .args .by ≤ 128 * 255000 = mul-le-mul (natAbs-le (c .args .offset) (c .fits .offset .sfits)) (c .pre .1) in
+    let p : natAbs (c .args .offset) * c .args .by ≤ 128 * 255000 =
+    mul-le-mul (natAbs-le (c .args .offset) (c .fits .offset .sfits)) (c .pre .1) in
     omega (arith, size-mul (c .args .offset) (pos (c .args .by)))
 
 whole≤ : (c : tie.Start) → natAbs (whole c) ≤ 17300000000
@@ -68,7 +69,16 @@ div-result c = search facts
 
 cast-result-4 : tie.Need-cast-result-4
 cast-result-4 c =
-    simp (toZ-ofZ (c .fits .offset), toZ-ofZ (offset-fits c), up-read c, read32 (c .fits .by), toZ-ofZ (part-fits c), toZ-ofZ (whole-fits c), quot-div, toZ-ofZ (quotient-fits c))
+    simp (
+      toZ-ofZ (c .fits .offset),
+      toZ-ofZ (offset-fits c),
+      up-read c,
+      read32 (c .fits .by),
+      toZ-ofZ (part-fits c),
+      toZ-ofZ (whole-fits c),
+      quot-div,
+      toZ-ofZ (quotient-fits c),
+    )
     (result-fits c)
 
 returns : tie.Need-returns

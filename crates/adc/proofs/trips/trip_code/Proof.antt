@@ -5,8 +5,8 @@ use native.Mathlib.Omega.{arith}
 use lib.IntN.{ℤ}
 use mir.Syntax.{w64}
 use mir.Facts.{toZ-ofZ}
-use Rattle.signed.specs.Numbers.{_÷↓_, _%↓_}
-use Rattle.signed.proofs.Signed.{read-back, rest<}
+use Rattle.numbers.specs.Numbers.{_÷↓_, _%↓_}
+use Rattle.numbers.proofs.Signed.{read-back, rest<}
 use Rattle.adc.specs.Trips.{tripCode}
 use Rattle.adc.proofs.trips.trip_code.Statement.{statement}
 use Rattle.adc.proofs.trips.trip_code.Tie as tie

@@ -4,7 +4,7 @@ use Rattle.bq769x0.proofs.BQ769x0.is_calibrated_right.Statement.{statem
 use Rattle.bq769x0.proofs.BQ769x0.is_calibrated_right.Tie as tie
 
 returns : tie.Need-returns
-returns c = rw (zero-test (c .before .args .self .«adc_offset») (c .struct-told .given .1 .1 .1 .1 .1 .0 .1))
+returns c = rw (zero-test (c .before .args .self .adc .offset) (c .struct-told .given .1 .1 .0 .1 .1 .1 .0 .1))
 
 pub is-calibrated-right-spec : {M : Type 1} → statement M
 is-calibrated-right-spec = tie.close (tie.spec returns)

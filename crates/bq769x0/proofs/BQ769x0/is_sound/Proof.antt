@@ -25,7 +25,13 @@ is-marked-right-requires c κs = search needs
 
 returns-2 : tie.Need-returns-2
 unfolding isSound
-returns-2 c = rw (← c .before .before .before .before .device-answer .ensures, c .before .before .enum-told .given .1, c .before .is-calibrated-right .ensures, c .is-marked-right .ensures)
+returns-2 c =
+    rw (
+      ← c .before .before .before .before .device-answer .ensures,
+      c .before .before .enum-told .given .1,
+      c .before .is-calibrated-right .ensures,
+      c .is-marked-right .ensures,
+    )
 
 pub is-sound-spec : {M : Type 1} → statement M
 is-sound-spec =

@@ -1,11 +1,19 @@
 -- `bq769x0::BQ769x0::read_adc_characteristics` meets its contract. Assumes nothing.
 use mathlib.Core.Path.{_≡_, sym, _∙_}
+use mathlib.Core.Bool.{true}
 use borrow.Author.Tests.{not-true, not-false}
 use Rattle.bq769x0.specs.Calibrate.{readAdcCharacteristics}
+use Rattle.bq769x0.specs.Record.{isSound}
 use Rattle.bq769x0.proofs.Soundly.{sound-on, sound-off}
 use borrow.Author.Needs.{needs}
 use Rattle.bq769x0.proofs.BQ769x0.read_adc_characteristics.Statement.{statement}
 use Rattle.bq769x0.proofs.BQ769x0.read_adc_characteristics.Tie as tie
+
+abbrev at-call : tie.After-slice-known2 → tie.After-calibrate
+at-call c = c .before .before
+
+sound-here : (c : tie.Else1) → isSound (c .before .before .before .before .args .self) ≡ true
+sound-here c = sym (c .before .is-sound .ensures) ∙ not-false _ (c .if1 .left)
 
 is-sound-requires : tie.Need-is-sound-requires
 is-sound-requires c κs = search needs
@@ -23,8 +31,7 @@ same-length c = search needs
 returns-2 : tie.Need-returns-2
 unfolding readAdcCharacteristics
 returns-2 c =
-    c .before .before .calibrate .ensures
-    ∙ sym (sound-on _ _ _ _ (sym (c .before .before .before .before .before .is-sound .ensures) ∙ not-false _ (c .before .before .before .before .if1 .left)))
+    at-call c .calibrate .ensures ∙ sym (sound-on _ _ _ _ (sound-here (at-call c .before .before)))
 
 pub read-adc-characteristics-spec : {M : Type 1} → statement M
 read-adc-characteristics-spec =

@@ -1,11 +1,22 @@
 -- `bq769x0::BQ769x0::read_raw` meets its contract. Assumes nothing.
 use mathlib.Core.Path.{_≡_, sym, _∙_}
+use mathlib.Core.Bool.{true}
 use borrow.Author.Tests.{not-true, not-false}
 use Rattle.bq769x0.specs.Registers.{readRaw}
+use Rattle.bq769x0.specs.Record.{isSound}
 use Rattle.bq769x0.proofs.Soundly.{sound-on, sound-off}
 use borrow.Author.Needs.{needs}
 use Rattle.bq769x0.proofs.BQ769x0.read_raw.Statement.{statement}
 use Rattle.bq769x0.proofs.BQ769x0.read_raw.Tie as tie
+
+abbrev at-call : tie.After-slice-known4 → tie.After-read-raw
+at-call c = c .before .before .before .before
+
+abbrev at-start : tie.After-is-sound → tie.Start
+at-start c = c .before .before .before .before
+
+sound-here : (c : tie.Else1) → isSound (at-start (c .before) .args .self) ≡ true
+sound-here c = sym (c .before .is-sound .ensures) ∙ not-false _ (c .if1 .left)
 
 is-sound-requires : tie.Need-is-sound-requires
 is-sound-requires c κs = search needs
@@ -13,9 +24,6 @@ is-sound-requires c κs = search needs
 returns : tie.Need-returns
 unfolding readRaw
 returns c = sym (sound-off _ _ _ _ (sym (c .before .is-sound .ensures) ∙ not-true _ (c .if1 .taken)))
-
-setup-requires : tie.Need-setup-requires
-setup-requires c κs = search needs
 
 read-raw-requires : tie.Need-read-raw-requires
 read-raw-requires c κs = search needs
@@ -29,11 +37,9 @@ same-length-2 c = search needs
 returns-2 : tie.Need-returns-2
 unfolding readRaw
 returns-2 c =
-    c .before .before .before .before .read-raw .ensures
-    ∙ rw (c .before .before .before .before .before .before .before .setup .ensures)
-    (sym (sound-on _ _ _ _ (sym (c .before .before .before .before .before .before .before .before .before .is-sound .ensures) ∙ not-false _ (c .before .before .before .before .before .before .before .before .if1 .left))))
+    at-call c .read-raw .ensures ∙ sym (sound-on _ _ _ _ (sound-here (at-call c .before .before .before .before)))
 
 pub read-raw-spec : {M : Type 1} → statement M
 read-raw-spec =
     tie.close
-    (tie.spec is-sound-requires returns setup-requires read-raw-requires same-length same-length-2 returns-2)
+    (tie.spec is-sound-requires returns read-raw-requires same-length same-length-2 returns-2)

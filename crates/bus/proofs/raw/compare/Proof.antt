@@ -12,13 +12,17 @@ use Rattle.bus.proofs.raw.compare.Statement.{statement}
 use Rattle.bus.proofs.raw.compare.Tie as tie
 
 abbrev Inv-loop : tie.InvT-loop
-Inv-loop reg bytes back i₀ i = (i ≤ length bytes) × (compared reg bytes back ≡ compared (reg + i) (drop i bytes) (drop i back))
+Inv-loop reg bytes back i₀ i =
+    (i ≤ length bytes) × (compared reg bytes back ≡ compared (reg + i) (drop i bytes) (drop i back))
 
 abbrev μ-loop : tie.MeasureT-loop
 μ-loop reg bytes back i₀ i = length bytes - i
 
 loop-holds : tie.Need-loop-holds Inv-loop μ-loop
 loop-holds c = (zero-le, rw add-zero)
+
+abbrev at-loop : tie.After-shared-slice-known2 Inv-loop μ-loop → tie.At-loop Inv-loop μ-loop
+at-loop c = c .before .before .before
 
 shared-slice-read-if1 : tie.Need-shared-slice-read-if1 Inv-loop μ-loop
 shared-slice-read-if1 c = search needs
@@ -34,9 +38,8 @@ cast-t13 c = search needs
 
 returns : tie.Need-returns Inv-loop μ-loop
 returns c =
-    let s = c .before .before .before .before .before in
-    let l = c .before .before .before .before .loop in
-    sym (l .inv .1 ∙ compared-differs (s .args .reg) (now (s .args .«data»)) (now (s .args .back)) (l .i) (omega arith) (s .pre .0) (c .if1 .taken))
+    sym (at-loop (c .before) .loop .inv .1
+    ∙ compared-differs _ _ _ _ (omega arith) (at-loop (c .before) .before .pre .0) (c .if1 .taken))
 
 add-i : tie.Need-add-i Inv-loop μ-loop
 add-i c = search needs
@@ -45,16 +48,16 @@ loop-less : tie.Need-loop-less Inv-loop μ-loop
 loop-less c = search needs
 
 loop-again : tie.Need-loop-again Inv-loop μ-loop
-loop-again c =
-    let s = c .before .before .before .before .before in
-    let l = c .before .before .before .before .loop in
-    (omega arith, l .inv .1 ∙ compared-same (s .args .reg) (now (s .args .«data»)) (now (s .args .back)) (l .i) (omega arith) (s .pre .0) (c .if1 .left))
+loop-again c = (
+  omega arith,
+  at-loop (c .before) .loop .inv .1
+      ∙ compared-same _ _ _ _ (omega arith) (at-loop (c .before) .before .pre .0) (c .if1 .left),
+)
 
 returns-2 : tie.Need-returns-2 Inv-loop μ-loop
 returns-2 c =
-    let a = c .before .before .args in
-    let l = c .before .loop in
-    sym (l .inv .1 ∙ compared-end (a .reg + l .i) (now (a .«data»)) (drop (l .i) (now (a .back))) (l .i) (omega arith))
+    sym (c .before .loop .inv .1
+    ∙ compared-end _ (now (c .before .before .args .«data»)) _ (c .before .loop .i) (omega arith))
 
 pub compare-spec : {M : Type 1} → statement M
 compare-spec =

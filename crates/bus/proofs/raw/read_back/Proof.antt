@@ -1,13 +1,32 @@
 -- `bus::raw::read_back` meets its contract. Assumes nothing.
-use mathlib.Core.Path.{_≡_, sym, ap, _∙_}
-use denote.Ref.{now}
-use Rattle.bus.specs.Transfers.{busOf}
+use mathlib.Core.Path.{sym, ap, _∙_}
 use Rattle.bus.specs.Raw.{asRaw}
 use Rattle.bus.proofs.Raws.{back-off, back-on}
 use borrow.Author.Needs.{needs}
 use Rattle.bus.proofs.raw.read_back.Statement.{statement}
 use Rattle.bus.proofs.raw.read_back.Tie as tie
 
+-- ---- the places, each from a later one
+abbrev at-start : tie.After-slice-known2 → tie.Start
+at-start c = c .before .before .before .before
+
+abbrev at-lent : tie.After-transfer-read → tie.After-slice-known2
+at-lent c = c .before .before .before
+
+abbrev at-read : tie.After-slice-known4 → tie.After-transfer-read
+at-read c = c .before .before .before .before
+
+abbrev at-answer : tie.After-compare → tie.After-answer-of
+at-answer c = c .before .before .before .before
+
+-- ---- the read, and what was given, from its answer
+abbrev read : tie.After-answer-of → tie.After-transfer-read
+read c = at-read (c .before .before)
+
+abbrev start : tie.After-answer-of → tie.Start
+start c = at-start (at-lent (read c))
+
+-- ---- the needs
 transfer-read-requires : tie.Need-transfer-read-requires
 transfer-read-requires c κs = search needs
 
@@ -28,12 +47,10 @@ same-length-2 c = search needs
 
 returns : tie.Need-returns
 returns c =
-    let s = c .before .before .before .before .before .before .before .before .before .before .before .before .before .before .before in
-    let a = s .args in
-    let t = c .before .before .before .before .before .before .before .before .transfer-read in
-    let answered = c .before .before .answer-of .ensures in
-    rw answered
-    (back-off (a .address) (a .reg) (now (a .«data»)) (busOf (now (a .tape)) (now (a .log)) (a .at)) (now (a .back)) (s .pre .0) _ _ _ (t .kept .1 .1 .0) (t .ensures) _ (sym answered ∙ ap asRaw (c .enum-told2 .given .1)))
+    rw (c .before .before .answer-of .ensures)
+    (back-off _ _ _ _ _ (start (c .before .before) .pre .0) _ _ _
+    (read (c .before .before) .transfer-read .kept .1 .1 .0) (read (c .before .before) .transfer-read .ensures)
+    _ (sym (c .before .before .answer-of .ensures) ∙ ap asRaw (c .enum-told2 .given .1)))
 
 compare-requires : tie.Need-compare-requires
 compare-requires c κs = search needs
@@ -46,11 +63,10 @@ same-length-4 c = search needs
 
 returns-2 : tie.Need-returns-2
 returns-2 c =
-    let s = c .before .before .before .before .before .before .before .before .before .before .before .before .before .before .before .before .before in
-    let a = s .args in
-    let t = c .before .before .before .before .before .before .before .before .before .before .transfer-read in
     rw (c .compare .ensures)
-    (back-on (a .address) (a .reg) (now (a .«data»)) (busOf (now (a .tape)) (now (a .log)) (a .at)) (now (a .back)) (s .pre .0) _ _ _ (t .kept .1 .1 .0) (t .ensures) (sym (c .before .before .before .before .answer-of .ensures) ∙ ap asRaw (c .before .before .enum-told .given .1)))
+    (back-on _ _ _ _ _ (start (at-answer c) .pre .0) _ _ _
+    (read (at-answer c) .transfer-read .kept .1 .1 .0) (read (at-answer c) .transfer-read .ensures)
+    (sym (at-answer c .answer-of .ensures) ∙ ap asRaw (c .before .before .enum-told .given .1)))
 
 pub read-back-spec : {M : Type 1} → statement M
 read-back-spec =

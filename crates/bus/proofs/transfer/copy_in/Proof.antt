@@ -1,5 +1,5 @@
 -- `bus::transfer::copy_in` meets its contract: a turn goes on from a copy of j bytes to one of j + 1. Assumes nothing.
-use mathlib.Core.Path.{_≡_, refl, sym, ap, _∙_}
+use mathlib.Core.Path.{_≡_, refl, ap, _∙_}
 use mathlib.Core.List.{List}
 use Prim.Native.Nat.{ℕ, _≤_, _<_, _-_, _+_, zero-le}
 use native.Mathlib.Omega.{arith}

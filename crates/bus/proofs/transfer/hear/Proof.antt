@@ -1,16 +1,19 @@
 -- `bus::transfer::hear` meets its contract. Assumes nothing.
-use mathlib.Core.Path.{_≡_, subst, sym}
 use native.Mathlib.Omega.{arith}
 use denote.Ref.{now}
-use lib.ListN.{drop, getD}
-use Rattle.bus.specs.Transfers.{says}
-use Rattle.bus.specs.Replies.{judged, Heard}
-use Rattle.bus.specs.declared.transfer.Reply.{Reply}
 use Rattle.bus.proofs.Heard.{stops, at-end, at-short, at-cut, at-whole}
 use borrow.Author.Needs.{needs}
 use Rattle.bus.proofs.transfer.hear.Statement.{statement}
 use Rattle.bus.proofs.transfer.hear.Tie as tie
 
+-- ---- the places, each from a later one
+abbrev at-start : tie.Else2 → tie.Start
+at-start c = c .before .before .before
+
+abbrev at-tests : tie.After-be-u16 → tie.Else2
+at-tests c = c .before .before .before
+
+-- ---- the needs
 returns : tie.Need-returns
 returns c =
     let a = c .before .before .args in
@@ -50,7 +53,7 @@ sub-if3-2 c = search needs
 
 returns-3 : tie.Need-returns-3
 returns-3 c =
-    let a = c .before .before .before .before .before .before .before .args in
+    let a = at-start (at-tests (c .before)) .args in
     stops _ _ _ _ (at-cut (a .want) (a .at) (now (a .tape)) (omega arith) (omega (arith, c .before .be-u16 .ensures)))
 
 shared-slice-read-judge : tie.Need-shared-slice-read-judge
@@ -61,7 +64,7 @@ judge-requires c κs = search needs
 
 returns-4 : tie.Need-returns-4
 returns-4 c =
-    let a = c .before .before .before .before .before .before .before .before .before .args in
+    let a = at-start (at-tests (c .before .before .before)) .args in
     let len = c .before .before .before .be-u16 .ensures in
     rw (c .judge .ensures, len) (at-whole (a .want) (a .at) (now (a .tape)) (omega arith) (omega (arith, len)))
 

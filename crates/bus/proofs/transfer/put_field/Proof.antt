@@ -10,6 +10,9 @@ use borrow.Author.Needs.{needs}
 use Rattle.bus.proofs.transfer.put_field.Statement.{statement}
 use Rattle.bus.proofs.transfer.put_field.Tie as tie
 
+abbrev at-start : tie.After-copy-in → tie.Start
+at-start c = c .before .before .before .before
+
 add-n : tie.Need-add-n
 add-n c = search needs
 
@@ -52,7 +55,7 @@ same-length c = c .before .before .copy-in .kept .1 .0 ∙ simp length-set
 returns : tie.Need-returns
 unfolding field
 returns c =
-    let a = c .before .before .before .before .before .before .args in
+    let a = at-start (c .before .before) .args in
     c .before .before .copy-in .ensures
     ∙ put-head (now (a .log)) (a .at) _ _ _ _ (now (a .rest)) (omega arith)
     ∙ rw add-one

@@ -2,50 +2,64 @@
 use mathlib.Core.Path.{_≡_, refl, ap, subst}
 use Prim.Native.Nat.{ℕ, _+_, _≤_}
 use native.Mathlib.Omega.{arith}
-use lib.ListN.{length, drop}
+use lib.ListN.{length}
 use denote.Ref.{now}
 use Rattle.bus.specs.Fields.{field}
-use Rattle.bus.specs.Transfers.{Transfer, write, Bus, busOf, logField, wanted, answered, outcome}
+use Rattle.bus.specs.Transfers.{Transfer, write, Bus, busOf, logField, wanted, outcome}
 use Rattle.bus.specs.Replies.{Heard}
-use Rattle.bus.specs.declared.transfer.Reply.{Reply}
 use Rattle.bus.specs.declared.transfer.Reply.the-variants.{Made}
-use Rattle.bus.proofs.Moves.{room, there, written-stopped, written-by}
+use Rattle.bus.proofs.Moves.{Replied, room, there, written-stopped, written-by}
 use borrow.Author.Needs.{needs}
 use Rattle.bus.proofs.transfer.transfer_write.Statement.{statement}
 use Rattle.bus.proofs.transfer.transfer_write.Tie as tie
 
-abbrev transfer : tie.Start → Transfer
-transfer c = write (c .args .address) (now (c .args .bytes))
+-- ---- what is given, and what is to be done with it
+module _ (s : tie.Start) where
+  abbrev transfer : Transfer
+  transfer = write (s .args .address) (now (s .args .bytes))
 
-abbrev bus : tie.Start → Bus
-bus c = busOf (now (c .args .tape)) (now (c .args .log)) (c .args .at)
+  abbrev bus : Bus
+  bus = busOf (now (s .args .tape)) (now (s .args .log)) (s .args .at)
 
--- what is needed is the length of the field
-need : (c : tie.Start) → 4 + length (now (c .args .bytes)) ≡ length (logField (transfer c))
-unfolding logField field
-need c = omega arith
+  -- what is needed is the length of the field
+  need : 4 + length (now (s .args .bytes)) ≡ length (logField transfer)
+  unfolding logField field
+  need = omega arith
 
-heard : (c : tie.After-answer)
-    → Heard (wanted (transfer (c .before .before .before .before))) (drop (c .before .before .before .before .args .at .tape) (now (c .before .before .before .before .args .tape))) (outcome (transfer (c .before .before .before .before)) (bus (c .before .before .before .before))) (c .answer .result)
+  -- so much of the log is used then
+  end : s .args .at .log + (4 + length (now (s .args .bytes))) ≡ s .args .at .log + length (logField transfer)
+  end = ap (λ (k : ℕ). s .args .at .log + k) need
+
+-- ---- the places, each from a later one
+abbrev at-start : tie.After-answer → tie.Start
+at-start c = c .before .before .before .before
+
+abbrev at-reply : tie.After-put-field → tie.After-reply
+at-reply c = c .before .before .before
+
+-- ---- after the answer
+heard : (c : tie.After-answer) → Replied (transfer (at-start c)) (bus (at-start c)) (c .answer .result)
 unfolding outcome wanted
-heard c = rw (need (c .before .before .before .before)) at (c .answer .ensures)
+heard c = rw (need (at-start c)) at (c .answer .ensures)
 
-abbrev start : tie.After-reply → tie.Start
-start c = c .before .before .before .before .before .before
+-- ---- where it says that the transfer is made
+module _ (c : tie.After-reply) where
+  abbrev start : tie.Start
+  start = at-start (c .before .before)
 
-abbrev n : tie.After-reply → ℕ
-n c = c .reply .given .0 .1 .0
+  abbrev n : ℕ
+  n = c .reply .given .0 .1 .0
 
-made : (c : tie.After-reply)
-    → Heard (wanted (transfer (start c))) (drop (start c .args .at .tape) (now (start c .args .tape))) (outcome (transfer (start c)) (bus (start c))) (Made (c .reply .given .0 .0) (n c))
-made c = subst (Heard _ _ _) (c .reply .given .1) (heard (c .before .before))
+  made : Replied (transfer start) (bus start) (Made (c .reply .given .0 .0) n)
+  made = subst (Replied (transfer start) (bus start)) (c .reply .given .1) (heard (c .before .before))
 
-log-room : (c : tie.After-reply) → start c .args .at .log + (4 + length (now (start c .args .bytes))) ≤ length (now (start c .args .log))
-log-room c = omega (arith, need (start c), room (transfer (start c)) (bus (start c)) _ _ (made c))
+  log-room : start .args .at .log + (4 + length (now (start .args .bytes))) ≤ length (now (start .args .log))
+  log-room = omega (arith, need start, room (transfer start) (bus start) _ _ made)
 
-tape-room : (c : tie.After-reply) → start c .args .at .tape + 3 + n c ≤ length (now (start c .args .tape))
-tape-room c = omega (arith, there (transfer (start c)) (bus (start c)) _ _ (made c))
+  tape-room : start .args .at .tape + 3 + n ≤ length (now (start .args .tape))
+  tape-room = omega (arith, there (transfer start) (bus start) _ _ made)
 
+-- ---- the needs
 add-need : tie.Need-add-need
 add-need c = search needs
 
@@ -60,21 +74,20 @@ enum-told c = search needs
 
 returns : tie.Need-returns
 returns c =
-    let s = c .before .before .before .before .before .before in
     let told = c .enum-told .given .1 in
-    rw told (written-stopped (transfer s) (bus s) _ _ (subst (Heard _ _ _) told (heard (c .before .before))))
+    rw told (written-stopped _ _ _ _ (subst (Heard _ _ _) told (heard (c .before .before))))
 
 put-field-requires : tie.Need-put-field-requires
 put-field-requires c κs = log-room (c .before .before)
 
 add-t11 : tie.Need-add-t11
-add-t11 c = omega (arith, tape-room (c .before .before .before .before .before))
+add-t11 c = omega (arith, tape-room (at-reply (c .before .before)))
 
 add-t15 : tie.Need-add-t15
-add-t15 c = omega (arith, tape-room (c .before .before .before .before .before))
+add-t15 c = omega (arith, tape-room (at-reply (c .before .before)))
 
 add-t16 : tie.Need-add-t16
-add-t16 c = omega (arith, log-room (c .before .before .before .before .before))
+add-t16 c = omega (arith, log-room (at-reply (c .before .before)))
 
 same-length : tie.Need-same-length
 same-length c = search needs
@@ -82,8 +95,8 @@ same-length c = search needs
 returns-2 : tie.Need-returns-2
 unfolding logField wanted
 returns-2 c =
-    let r = c .before .before .before .before .before in
-    written-by (transfer (start r)) (bus (start r)) _ _ (made r) refl _ (c .before .before .put-field .ensures) _ (ap (λ (k : ℕ). start r .args .at .log + k) (need (start r)))
+    written-by _ _ _ _ (made (at-reply (c .before .before))) refl
+    _ (c .before .before .put-field .ensures) _ (end (start (at-reply (c .before .before))))
 
 pub transfer-write-spec : {M : Type 1} → statement M
 transfer-write-spec =

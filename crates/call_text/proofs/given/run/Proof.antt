@@ -5,15 +5,6 @@ use borrow.Author.Needs.{needs}
 use Rattle.call_text.proofs.given.run.Statement.{statement}
 use Rattle.call_text.proofs.given.run.Tie as tie
 
-sub-four : tie.Need-sub-four
-sub-four c = search needs
-
-part-four-start : tie.Need-part-four-start
-part-four-start c = search needs
-
-part-four-end : tie.Need-part-four-end
-part-four-end c = search needs
-
 four-requires : tie.Need-four-requires
 four-requires c κs = search needs
 
@@ -45,9 +36,6 @@ pub run-spec : {M : Type 1} → statement M
 run-spec =
     tie.close
     (tie.spec
-    sub-four
-    part-four-start
-    part-four-end
     four-requires
     cast-size
     refused-requires

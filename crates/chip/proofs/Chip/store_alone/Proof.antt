@@ -1,7 +1,8 @@
 -- `Chip::store_alone` meets its contract. The loop's invariant: with the bytes that are left stored, the chip is as it has to be.
 -- Assumes nothing.
 use mathlib.Core.Path.{_≡_, sym, ap, _∙_}
-use Prim.Native.Nat.{_+_, _-_, _≤_}
+use mathlib.Core.List.{List}
+use Prim.Native.Nat.{ℕ, _+_, _-_, _≤_}
 use native.Mathlib.Nat.{add-zero}
 use lib.ListN.{length, drop}
 use borrow.Author.Needs.{needs}
@@ -19,6 +20,15 @@ Inv-loop reg bytes out₀ i₀ out i =
 abbrev μ-loop : tie.MeasureT-loop
 μ-loop reg bytes out₀ i₀ out i = length bytes - i
 
+-- ---- in the loop
+module _ (c : tie.At-loop Inv-loop μ-loop) where
+  abbrev reg : ℕ
+  reg = c .before .before .args .reg
+
+  abbrev bytes : List ℕ
+  bytes = c .before .before .args .bytes .now
+
+-- ---- the needs
 loop-holds : tie.Need-loop-holds Inv-loop μ-loop
 loop-holds c = (rw add-zero, search needs, search needs)
 
@@ -42,9 +52,10 @@ loop-less c = search needs
 
 loop-again : tie.Need-loop-again Inv-loop μ-loop
 loop-again c =
-    let l = c .before .before .before .loop in
-    let a = c .before .before .before .before .before .args in (
-      rw (c .arrive .ensures) (ap (withRegs (l .out)) (stores-one (a .reg) (l .i) (a .bytes .now) (l .out .regs) (search needs)) ∙ l .inv .0),
+    let a = c .before .before .before in
+    let l = a .loop in (
+      rw (c .arrive .ensures)
+          (ap (withRegs (l .out)) (stores-one (reg a) (l .i) (bytes a) (l .out .regs) (search needs)) ∙ l .inv .0),
       search needs,
       l .inv .2,
     )
@@ -52,8 +63,8 @@ loop-again c =
 returns : tie.Need-returns Inv-loop μ-loop
 returns c =
     let l = c .before .loop in
-    let a = c .before .before .before .args in
-    sym (ap (withRegs (l .out)) (stores-end (a .reg + l .i) (l .i) (a .bytes .now) (l .out .regs) (search needs))) ∙ l .inv .0
+    let to = reg (c .before) + l .i in
+    sym (ap (withRegs (l .out)) (stores-end to (l .i) (bytes (c .before)) (l .out .regs) (search needs))) ∙ l .inv .0
 
 pub store-alone-spec : {M : Type 1} → statement M
 store-alone-spec =

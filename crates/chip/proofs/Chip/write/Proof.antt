@@ -5,16 +5,28 @@ use mathlib.Core.Bool.{true}
 use mathlib.Core.Option.{none}
 use borrow.Author.Needs.{needs}
 use borrow.Author.Tests.{not-true, not-false}
-use Rattle.bus.specs.Transfers.{write}
+use Rattle.bus.specs.Transfers.{Transfer, write}
 use Rattle.chip.specs.Chip.{answers, carried}
+use Rattle.chip.specs.declared.Chip.{Chip}
 use Rattle.chip.proofs.Takes.{device-on, device-off}
 use Rattle.chip.proofs.Chip.write.Statement.{statement}
 use Rattle.chip.proofs.Chip.write.Tie as tie
 
--- the chip answers
-there : (c : tie.Else1) → let a = c .before .before .before .args in answers (a .self) (write (a .self .address) (a .bytes .now)) ≡ true
-there c = sym (c .before .is-answered .ensures) ∙ not-false _ (c .if1 .left)
+-- ---- where the chip answers
+module _ (c : tie.Else1) where
+  abbrev start : tie.Start
+  start = c .before .before .before
 
+  abbrev chip : Chip
+  chip = start .args .self
+
+  abbrev sent : Transfer
+  sent = write (chip .address) (start .args .bytes .now)
+
+  there : answers chip sent ≡ true
+  there = sym (c .before .is-answered .ensures) ∙ not-false _ (c .if1 .left)
+
+-- ---- the needs
 is-answered-requires : tie.Need-is-answered-requires
 is-answered-requires c κs = search needs
 
@@ -28,9 +40,7 @@ take-in-requires c κs = there c
 
 returns-2 : tie.Need-returns-2
 unfolding carried
-returns-2 c =
-    let a = c .before .before .before .before .args in
-    c .take-in .ensures ∙ device-on none (a .self) (write (a .self .address) (a .bytes .now)) (there (c .before))
+returns-2 c = c .take-in .ensures ∙ device-on none (chip (c .before)) (sent (c .before)) (there (c .before))
 
 pub write-spec : {M : Type 1} → statement M
 write-spec = tie.close (tie.spec is-answered-requires returns take-in-requires returns-2)

@@ -1,12 +1,23 @@
 -- `commands::bits::change_bits` meets its contract. Assumes nothing.
-use mathlib.Core.Path.{sym, ap, _∙_}
+use mathlib.Core.Path.{refl, ap, _∙_}
 use Rattle.bus.specs.Raw.{asRaw}
-use Rattle.commands.specs.Bits.{putting, writing, changing}
-use Rattle.commands.proofs.First.{byte-on, byte-off}
+use Rattle.commands.specs.Bits.{putting}
+use Rattle.commands.proofs.Register.{unread, replaced}
 use borrow.Author.Needs.{needs}
 use Rattle.commands.proofs.bits.change_bits.Statement.{statement}
 use Rattle.commands.proofs.bits.change_bits.Tie as tie
 
+-- ---- the places
+abbrev at-read : tie.After-next → tie.After-read-raw
+at-read c = c .before .before .before .before
+
+abbrev at-changed : tie.After-slice-known3 → tie.After-changed
+at-changed c = c .before .before .before .before
+
+abbrev at-told : tie.After-slice-known3 → tie.After-enum-told
+at-told c = at-changed c .before .before
+
+-- ---- the needs
 slice-aggregate-read-raw : tie.Need-slice-aggregate-read-raw
 slice-aggregate-read-raw c = search needs
 
@@ -23,16 +34,11 @@ same-length : tie.Need-same-length
 same-length c = search needs
 
 returns : tie.Need-returns
-unfolding changing
 returns c =
-    let t = ap asRaw (c .enum-told2 .given .1) in
-    rw t (sym (byte-off _ _ _ (c .before .before .before .before .before .before .read-raw .ensures) _ _ t))
+    unread _ _ _ _ (at-read (c .before .before) .read-raw .ensures) (ap asRaw (c .enum-told2 .given .1))
 
 array-read-t20 : tie.Need-array-read-t20
 array-read-t20 c = search needs
-
-setup-requires : tie.Need-setup-requires
-setup-requires c κs = search needs
 
 slice-aggregate-write-raw : tie.Need-slice-aggregate-write-raw
 slice-aggregate-write-raw c = search needs
@@ -44,10 +50,11 @@ same-length-2 : tie.Need-same-length-2
 same-length-2 c = search needs
 
 returns-2 : tie.Need-returns-2
-unfolding putting writing changing
+unfolding putting
 returns-2 c =
     c .before .before .write-raw .ensures
-    ∙ rw (c .before .before .before .before .before .setup .ensures) (sym (byte-on _ _ _ (c .before .before .before .before .before .before .before .before .before .before .before .before .read-raw .ensures) _ (ap asRaw (c .before .before .before .before .before .before .enum-told .given .1))))
+    ∙ replaced _ _ _ _ (at-read (at-told c .before .before) .read-raw .ensures)
+    (ap asRaw (at-told c .enum-told .given .1)) refl
 
 pub change-bits-spec : {M : Type 1} → statement M
 change-bits-spec =
@@ -60,7 +67,6 @@ change-bits-spec =
     same-length
     returns
     array-read-t20
-    setup-requires
     slice-aggregate-write-raw
     write-raw-requires
     same-length-2

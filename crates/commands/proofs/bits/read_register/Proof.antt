@@ -1,11 +1,16 @@
 -- `commands::bits::read_register` meets its contract. Assumes nothing.
 use mathlib.Core.Path.{ap}
 use Rattle.bus.specs.Raw.{asRaw}
-use Rattle.commands.proofs.First.{register-read}
+use Rattle.commands.proofs.Register.{read-on, read-off}
 use borrow.Author.Needs.{needs}
 use Rattle.commands.proofs.bits.read_register.Statement.{statement}
 use Rattle.commands.proofs.bits.read_register.Tie as tie
 
+-- ---- the places
+abbrev at-read : tie.After-next → tie.After-read-raw
+at-read c = c .before .before .before .before
+
+-- ---- the needs
 slice-aggregate-read-raw : tie.Need-slice-aggregate-read-raw
 slice-aggregate-read-raw c = search needs
 
@@ -18,25 +23,26 @@ enum-told c = search needs
 enum-told-2 : tie.Need-enum-told-2
 enum-told-2 c = search needs
 
-of-raw-requires : tie.Need-of-raw-requires
-of-raw-requires c κs = search needs
+refusal-requires : tie.Need-refusal-requires
+refusal-requires c κs = search needs
 
 same-length : tie.Need-same-length
 same-length c = search needs
 
 returns : tie.Need-returns
 returns c =
-    let t = ap asRaw (c .before .enum-told2 .given .1) in
-    rw (c .of-raw .ensures, t) (rw t at (register-read _ _ _ (c .before .before .before .before .before .before .before .read-raw .ensures)))
+    read-off _ _ _ (at-read (c .before .before .before) .read-raw .ensures) (c .refusal .ensures)
+    (ap asRaw (c .before .enum-told2 .given .1))
 
-array-read-t17 : tie.Need-array-read-t17
-array-read-t17 c = search needs
+array-read-t18 : tie.Need-array-read-t18
+array-read-t18 c = search needs
 
 same-length-2 : tie.Need-same-length-2
 same-length-2 c = search needs
 
 returns-2 : tie.Need-returns-2
-returns-2 c = rw (ap asRaw (c .enum-told .given .1)) at (register-read _ _ _ (c .before .before .before .before .before .before .read-raw .ensures))
+returns-2 c =
+    read-on _ _ _ (at-read (c .before .before) .read-raw .ensures) (ap asRaw (c .enum-told .given .1))
 
 pub read-register-spec : {M : Type 1} → statement M
 read-register-spec =
@@ -46,9 +52,9 @@ read-register-spec =
     read-raw-requires
     enum-told
     enum-told-2
-    of-raw-requires
+    refusal-requires
     same-length
     returns
-    array-read-t17
+    array-read-t18
     same-length-2
     returns-2)

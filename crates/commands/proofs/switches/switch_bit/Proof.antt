@@ -1,13 +1,49 @@
 -- `commands::switches::switch_bit` meets its contract. Assumes nothing.
-use mathlib.Core.Path.{sym, ap, _∙_}
-use Rattle.bus.specs.Programs.{onTape}
+use mathlib.Core.Path.{_≡_, sym, ap, _∙_}
+use mathlib.Core.Bool.{Bool, true, false, Bool·beq}
+use mathlib.Core.Option.{none, some}
+use Prim.Native.Nat.{ℕ}
+use Rattle.refusals.specs.Refusal.{value}
 use Rattle.bus.specs.Raw.{asRaw}
-use Rattle.commands.specs.Bits.{switching, writing, changing}
-use Rattle.commands.proofs.First.{byte-on, byte-off}
+use Rattle.commands.specs.Bits.{holds, switched, switching}
+use Rattle.commands.proofs.Register.{unread, kept, replaced}
 use borrow.Author.Needs.{needs}
 use Rattle.commands.proofs.switches.switch_bit.Statement.{statement}
 use Rattle.commands.proofs.switches.switch_bit.Tie as tie
 
+-- ---- the test of the bit
+module _ (mask byte : ℕ) (enable : Bool) {held : Bool} (held-is : held ≡ holds mask byte) where
+  stands : Bool·beq enable held ≡ true → switching mask enable byte ≡ none
+  unfolding switching
+  stands t = rw (sym held-is, t)
+
+  differs : {x : ℕ} → Bool·beq enable held ≡ false → x ≡ switched mask enable byte
+      → switching mask enable byte ≡ some x
+  unfolding switching
+  differs t x-is = rw (sym held-is, t, x-is)
+
+-- ---- the places
+abbrev at-read : tie.After-next → tie.After-read-raw
+at-read c = c .before .before .before .before
+
+abbrev at-changed : tie.After-slice-known3 → tie.After-changed
+at-changed c = c .before .before .before .before
+
+abbrev at-switched : tie.After-slice-known3 → tie.After-switched
+at-switched c = at-changed c .before .before
+
+abbrev at-held : tie.After-slice-known3 → tie.After-holds
+at-held c = at-switched c .before .before
+
+-- ---- the bit is tested where the read went well
+module _ (c : tie.After-holds) where
+  abbrev read : tie.After-read-raw
+  read = at-read (c .before .before .before)
+
+  went : asRaw (read .read-raw .result .answer) ≡ value tt
+  went = ap asRaw (c .before .enum-told .given .1)
+
+-- ---- the needs
 slice-aggregate-read-raw : tie.Need-slice-aggregate-read-raw
 slice-aggregate-read-raw c = search needs
 
@@ -24,10 +60,8 @@ same-length : tie.Need-same-length
 same-length c = search needs
 
 returns : tie.Need-returns
-unfolding changing
 returns c =
-    let t = ap asRaw (c .enum-told2 .given .1) in
-    rw t (sym (byte-off _ _ _ (c .before .before .before .before .before .before .read-raw .ensures) _ _ t))
+    unread _ _ _ _ (at-read (c .before .before) .read-raw .ensures) (ap asRaw (c .enum-told2 .given .1))
 
 array-read-byte : tie.Need-array-read-byte
 array-read-byte c = search needs
@@ -39,18 +73,12 @@ same-length-2 : tie.Need-same-length-2
 same-length-2 c = search needs
 
 returns-2 : tie.Need-returns-2
-unfolding switching writing changing onTape
 returns-2 c =
-    let t = ap asRaw (c .before .before .enum-told .given .1) in
-    rw t (sym (
-    byte-on _ _ _ (c .before .before .before .before .before .before .before .before .read-raw .ensures) _ t
-    ∙ rw (sym (c .before .holds .ensures), c .if1 .taken)))
+    kept _ _ _ _ (read (c .before) .read-raw .ensures) (went (c .before))
+    (stands _ _ _ (c .before .holds .ensures) (c .if1 .taken))
 
 switched-requires : tie.Need-switched-requires
 switched-requires c κs = search needs
-
-setup-requires : tie.Need-setup-requires
-setup-requires c κs = search needs
 
 slice-aggregate-write-raw : tie.Need-slice-aggregate-write-raw
 slice-aggregate-write-raw c = search needs
@@ -62,12 +90,10 @@ same-length-3 : tie.Need-same-length-3
 same-length-3 c = search needs
 
 returns-3 : tie.Need-returns-3
-unfolding switching writing changing
 returns-3 c =
     c .before .before .write-raw .ensures
-    ∙ rw (c .before .before .before .before .before .setup .ensures, c .before .before .before .before .before .before .switched .ensures) (sym (
-    byte-on _ _ _ (c .before .before .before .before .before .before .before .before .before .before .before .before .before .before .before .read-raw .ensures) _ (ap asRaw (c .before .before .before .before .before .before .before .before .before .enum-told .given .1))
-    ∙ rw (sym (c .before .before .before .before .before .before .before .before .holds .ensures), c .before .before .before .before .before .before .before .if1 .left)))
+    ∙ replaced _ _ _ _ (read (at-held c) .read-raw .ensures) (went (at-held c))
+    (differs _ _ _ (at-held c .holds .ensures) (at-switched c .before .if1 .left) (at-switched c .switched .ensures))
 
 pub switch-bit-spec : {M : Type 1} → statement M
 switch-bit-spec =
@@ -84,7 +110,6 @@ switch-bit-spec =
     same-length-2
     returns-2
     switched-requires
-    setup-requires
     slice-aggregate-write-raw
     write-raw-requires
     same-length-3

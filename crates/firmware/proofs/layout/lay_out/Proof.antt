@@ -5,6 +5,17 @@ use borrow.Author.Needs.{needs}
 use Rattle.firmware.proofs.layout.lay_out.Statement.{statement}
 use Rattle.firmware.proofs.layout.lay_out.Tie as tie
 
+-- ---- the places, each from a later one: after the tape's number, and after the first and the third of the five
+abbrev at-third : tie.After-put45 → tie.After-put43
+at-third c = c .before .before .before .before
+
+abbrev at-first : tie.After-put43 → tie.After-put4
+at-first c = c .before .before .before .before
+
+abbrev at-tape : tie.After-put4 → tie.After-put8
+at-tape c = c .before .before .before .before
+
+-- ---- the needs
 put8-requires : tie.Need-put8-requires
 put8-requires c κs = search needs
 
@@ -28,13 +39,13 @@ put4-requires-5 c κs = search needs
 
 returns : tie.Need-returns
 returns c =
-    let a = c .before .before .before .before .before .before .before .before .before .before .before .before .before .before .args in
-    laid-is (now (a .out)) (a .at) (a .five) (search needs)
-    (c .before .before .before .before .before .before .before .before .before .before .before .before .put8 .ensures)
-    (c .before .before .before .before .before .before .before .before .before .before .put82 .ensures)
-    (c .before .before .before .before .before .before .before .before .put4 .ensures)
-    (c .before .before .before .before .before .before .put42 .ensures)
-    (c .before .before .before .before .put43 .ensures)
+    let a = at-tape (at-first (at-third c)) .before .before .args in
+    laid-is (now (a .out)) (a .at) (a .numbers) (search needs)
+    (at-tape (at-first (at-third c)) .put8 .ensures)
+    (at-first (at-third c) .before .before .put82 .ensures)
+    (at-first (at-third c) .put4 .ensures)
+    (at-third c .before .before .put42 .ensures)
+    (at-third c .put43 .ensures)
     (c .before .before .put44 .ensures)
     (c .put45 .ensures)
 

@@ -1,36 +1,40 @@
 -- `firmware::layout::put8` meets its contract. Assumes nothing.
+use mathlib.Core.Path.{ap, _∙_}
 use denote.Ref.{now}
-use Rattle.firmware.specs.Layout.{eight}
-use Rattle.firmware.proofs.Laid.{eight-put}
+use Rattle.frames.specs.Put.{put}
 use borrow.Author.Needs.{needs}
 use Rattle.firmware.proofs.layout.put8.Statement.{statement}
 use Rattle.firmware.proofs.layout.put8.Tie as tie
 
-cast-put4 : tie.Need-cast-put4
-cast-put4 c = search needs
+-- ---- the places
+abbrev at-put : tie.After-slice-known2 → tie.After-put-bytes
+at-put c = c .before .before
 
-put4-requires : tie.Need-put4-requires
-put4-requires c κs = search needs
+abbrev at-bytes : tie.After-slice-known2 → tie.After-u64-bytes
+at-bytes c = at-put c .before .before .before
 
-add-put4 : tie.Need-add-put4
-add-put4 c = search needs
+abbrev at-start : tie.After-u64-bytes → tie.Start
+at-start c = c .before .before
 
-cast-put4-2 : tie.Need-cast-put4-2
-cast-put4-2 c = search needs
+-- ---- the needs
+u64-bytes-requires : tie.Need-u64-bytes-requires
+u64-bytes-requires c κs = search needs
 
-put4-requires-2 : tie.Need-put4-requires-2
-put4-requires-2 c κs = search needs
+slice-aggregate-put-bytes : tie.Need-slice-aggregate-put-bytes
+slice-aggregate-put-bytes c = search needs
+
+put-bytes-requires : tie.Need-put-bytes-requires
+put-bytes-requires c κs = search needs
 
 same-length : tie.Need-same-length
 same-length c = search needs
 
 returns : tie.Need-returns
-unfolding eight
 returns c =
-    let a = c .before .before .before .before .before .before .before .before .before .args in
-    eight-put (now (a .out)) (a .at) _ _ (search needs) (c .before .before .before .before .before .before .put4 .ensures) (c .before .before .put42 .ensures)
+    at-put c .put-bytes .ensures
+    ∙ ap (put (now (at-start (at-bytes c) .args .out)) (at-start (at-bytes c) .args .at)) (at-bytes c .u64-bytes .ensures)
 
 pub put8-spec : {M : Type 1} → statement M
 put8-spec =
     tie.close
-    (tie.spec cast-put4 put4-requires add-put4 cast-put4-2 put4-requires-2 same-length returns)
+    (tie.spec u64-bytes-requires slice-aggregate-put-bytes put-bytes-requires same-length returns)

@@ -9,7 +9,7 @@ use denote.Ref.{now}
 use borrow.Author.Needs.{needs}
 use Rattle.frames.specs.Put.{put}
 use Rattle.frames.proofs.Put.{put-none}
-use Rattle.job.specs.Encoding.{four}
+use Rattle.numbers.specs.Numbers.{four}
 use Rattle.firmware.specs.JobCells.{cellOf, stored}
 use Rattle.firmware.proofs.CellBytes.{one-more-number}
 use Rattle.firmware.proofs.list.put_numbers.Statement.{statement}
@@ -22,6 +22,43 @@ Inv-loop n list₀ numbers i₀ list i =
 abbrev μ-loop : tie.MeasureT-loop
 μ-loop n list₀ numbers i₀ list i = n - i
 
+-- ---- a turn, from its test on
+module _ (c : tie.In-loop Inv-loop μ-loop) where
+  abbrev i : ℕ
+  i = c .before .loop .i
+
+  abbrev list : List ℕ
+  list = now (c .before .before .before .args .list)
+
+  abbrev numbers : List ℕ
+  numbers = c .before .before .before .args .t2
+
+  abbrev so-far : List ℕ
+  so-far = stored i (map cellOf numbers) list
+
+  abbrev bytes : List ℕ
+  bytes = four (getD numbers i 0)
+
+  is-number : i < length numbers
+  is-number = omega arith
+
+  has-bytes : 4 * i + 4 ≤ length list
+  has-bytes = omega arith
+
+-- ---- and after its number is put
+module _ (c : tie.After-put4 Inv-loop μ-loop) where
+  abbrev turn : tie.In-loop Inv-loop μ-loop
+  turn = c .before .before
+
+  put-here : c .put4 .last .0 ≡ put (so-far turn) (4 * i turn) (bytes turn)
+  put-here = c .put4 .ensures ∙ ap (λ (x : List ℕ). put x (4 * i turn) (bytes turn)) (turn .before .loop .inv .0)
+
+  put-next : c .put4 .last .0 ≡ stored (i turn + 1) (map cellOf (numbers turn)) (list turn)
+  put-next =
+      one-more-number (list turn) _ (numbers turn) (i turn) (is-number turn) (has-bytes turn) put-here
+      ∙ rw add-one
+
+-- ---- the needs
 loop-holds : tie.Need-loop-holds Inv-loop μ-loop
 loop-holds c = (sym (put-none _ 0), zero-le, refl, c .before .good .1 .0 .1 .0 .1)
 
@@ -45,18 +82,7 @@ loop-less c = search needs
 
 loop-again : tie.Need-loop-again Inv-loop μ-loop
 loop-again c =
-    let l = c .before .before .before .before .before .loop in
-    let a = c .before .before .before .before .before .before .before .args in
-    let bytes = four (getD (a .t2) (l .i) 0) in
-    let h : l .i < length (a .t2) = omega arith in
-    let room : 4 * l .i + 4 ≤ length (now (a .list)) = omega arith in (
-      one-more-number (now (a .list)) _ (a .t2) (l .i) h room
-          (c .before .before .put4 .ensures ∙ ap (λ (x : List ℕ). put x (4 * l .i) bytes) (l .inv .0))
-          ∙ rw add-one,
-      omega arith,
-      search needs,
-      l .inv .3,
-    )
+    (put-next (c .before .before), omega arith, search needs, turn (c .before .before) .before .loop .inv .3)
 
 same-length : tie.Need-same-length Inv-loop μ-loop
 same-length c = c .before .loop .inv .2

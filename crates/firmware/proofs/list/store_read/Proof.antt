@@ -11,11 +11,13 @@ enum-told c = search needs
 enum-told-2 : tie.Need-enum-told-2
 enum-told-2 c = search needs
 
-of-raw-requires : tie.Need-of-raw-requires
-of-raw-requires c κs = search needs
+refusal-requires : tie.Need-refusal-requires
+refusal-requires c κs = search needs
 
 returns : tie.Need-returns
-returns c = (rw (c .of-raw .ensures, ap asRaw (c .before .enum-told2 .given .1)), refl)
+returns c =
+    let t = ap asRaw (c .before .enum-told2 .given .1) in
+    (rw (c .refusal .ensures, t), refl)
 
 put-numbers-requires : tie.Need-put-numbers-requires
 put-numbers-requires c κs = search needs
@@ -24,7 +26,9 @@ same-length : tie.Need-same-length
 same-length c = search needs
 
 returns-2 : tie.Need-returns-2
-returns-2 c = (rw (c .before .before .put-numbers .ensures, ap asRaw (c .before .before .before .before .enum-told .given .1)), refl)
+returns-2 c =
+    let t = ap asRaw (c .before .before .before .before .enum-told .given .1) in
+    (rw (c .before .before .put-numbers .ensures, t), refl)
 
 pub store-read-spec : {M : Type 1} → statement M
 store-read-spec =
@@ -32,7 +36,7 @@ store-read-spec =
     (tie.spec
     enum-told
     enum-told-2
-    of-raw-requires
+    refusal-requires
     returns
     put-numbers-requires
     same-length

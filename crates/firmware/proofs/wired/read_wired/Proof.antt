@@ -8,21 +8,21 @@ use denote.Ref.{now}
 use borrow.Author.Needs.{needs}
 use borrow.Author.Tests.{not-true, not-false}
 use Rattle.refusals.specs.Refusal.{no}
-use Rattle.settings.specs.Plan.{Values, asValues, asInit}
+use Rattle.plan.specs.Plan.{Values, asValues, asInit}
 use Rattle.bus.specs.Transfers.{Bus, busOf}
 use Rattle.bus.specs.Programs.{Ran, ran, onTape}
 use Rattle.bus.specs.Raw.{asRaw}
 use Rattle.bq769x0.specs.declared.BQ769x0.{BQ769x0}
-use Rattle.bq769x0.specs.declared.setting.Init.{Init}
+use Rattle.bq769x0.specs.declared.init.Init.{Init}
 use Rattle.measuring.specs.Wired.{Shown, shown, wired}
 use Rattle.measuring.specs.declared.cells.Cells.{Cells}
 use Rattle.firmware.specs.JobCells.{listed, cellOf, hasRoom, storing}
 use Rattle.firmware.specs.JobWired.{Beside, beside, unlisted, readWired}
-use Rattle.firmware.proofs.Reading.{has-room-is, room, no-room}
+use Rattle.firmware.proofs.Reading.{has-room-is, room, no-room, Stores}
 use Rattle.firmware.proofs.wired.read_wired.Statement.{statement}
 use Rattle.firmware.proofs.wired.read_wired.Tie as tie
 
--- ---- the call
+-- ---- what is given, and what is to be done with it
 module _ (s : tie.Start) where
   abbrev device : BQ769x0
   device = s .args .device
@@ -51,20 +51,24 @@ module _ (s : tie.Start) where
     inputs = read .inputs;
   }
 
-  refused-19 : hasRoom count (length list) ≡ false → whole ≡ record { answer = unlisted device inputs list (no 19 []); bus = bus }
+  refused-19 : hasRoom count (length list) ≡ false
+      → whole ≡ record { answer = unlisted device inputs list (no 19 []); bus = bus }
   unfolding readWired
   refused-19 = no-room count list (unlisted device inputs list) (wired device inputs (replicate 15 0)) given bus
 
   -- the reading's outcome, and what was stored of it
-  came : hasRoom count (length list) ≡ true → (r : Cells) (inputs′ numbers log′ : List ℕ) (left : Init) (list′ : List ℕ)
-      → ran (shown (asRaw (r .answer)) (r .device) inputs′ numbers) (bus .tape) log′ (r .at) ≡ onTape (wired device inputs (replicate 15 0)) bus
-      → (listed (asInit (left .answer)) (left .device) list′ ≡ storing count (map cellOf numbers) list values (r .device) (asRaw (r .answer))) × (left .at ≡ r .at)
+  came : hasRoom count (length list) ≡ true
+      → (r : Cells) (inputs′ numbers log′ : List ℕ) (left : Init) (list′ : List ℕ)
+      → ran (shown (asRaw (r .answer)) (r .device) inputs′ numbers) (bus .tape) log′ (r .at)
+      ≡ onTape (wired device inputs (replicate 15 0)) bus
+      → Stores count numbers list values r left list′
       → ran (beside (asInit (left .answer)) (left .device) inputs′ list′) (bus .tape) log′ (left .at) ≡ whole
   unfolding readWired
   came roomy r inputs′ numbers log′ left list′ read stored =
-      rw (stored .0, stored .1) (sym (room count list (unlisted device inputs list) (wired device inputs (replicate 15 0)) given bus roomy read))
+      rw (stored .0, stored .1)
+      (sym (room count list (unlisted device inputs list) (wired device inputs (replicate 15 0)) given bus roomy read))
 
--- ---- the places, each from the next
+-- ---- the places, each from a later one
 abbrev at-start : tie.After-slice-known3 → tie.Start
 at-start c = c .before .before .before .before
 
@@ -80,6 +84,7 @@ at-inputs c = c .before .before .before .before
 abbrev at-read : tie.After-slice-known4 → tie.After-wired
 at-read c = c .before .before
 
+-- ---- where there is room
 module _ (c : tie.Else1) where
   abbrev start : tie.Start
   start = at-start (at-lent (c .before))
@@ -87,6 +92,27 @@ module _ (c : tie.Else1) where
   roomy : hasRoom (count start) (length (list start)) ≡ true
   roomy = sym (c .before .has-room .ensures) ∙ not-false _ (c .if1 .left)
 
+-- ---- after the reading
+module _ (c : tie.After-wired) where
+  abbrev s : tie.Start
+  s = start (at-room c)
+
+  abbrev shown-inputs : List ℕ
+  shown-inputs = c .wired .last .1 .0
+
+  abbrev numbers : List ℕ
+  numbers = c .wired .last .1 .1 .0
+
+  abbrev log : List ℕ
+  log = c .wired .last .1 .1 .1 .1 .0
+
+  read-is : (left : Init) (list′ : List ℕ)
+      → Stores (count s) numbers (list s) (values s) (c .wired .result) left list′
+      → ran (beside (asInit (left .answer)) (left .device) shown-inputs list′) (bus s .tape) log (left .at) ≡ whole s
+  read-is left list′ =
+      came s (roomy (at-room c)) (c .wired .result) shown-inputs numbers log left list′ (c .wired .ensures)
+
+-- ---- the needs
 cast-n : tie.Need-cast-n
 cast-n c = search needs
 
@@ -94,7 +120,9 @@ has-room-requires : tie.Need-has-room-requires
 has-room-requires c κs = search needs
 
 returns : tie.Need-returns
-returns c = sym (refused-19 (at-start (at-lent (c .before))) (sym (c .before .has-room .ensures) ∙ not-true _ (c .if1 .taken)))
+returns c =
+    sym (refused-19 (at-start (at-lent (c .before)))
+    (sym (c .before .has-room .ensures) ∙ not-true _ (c .if1 .taken)))
 
 slice-aggregate-wired : tie.Need-slice-aggregate-wired
 slice-aggregate-wired c = search needs
@@ -114,22 +142,10 @@ same-length-2 c = search needs
 same-length-3 : tie.Need-same-length-3
 same-length-3 c = search needs
 
-module _ (c : tie.After-wired) where
-  abbrev s : tie.Start
-  s = start (at-room c)
-
-  read-is : (left : Init) (list′ : List ℕ)
-      → (listed (asInit (left .answer)) (left .device) list′
-      ≡ storing (count s) (map cellOf (c .wired .last .1 .1 .0)) (list s) (values s) (c .wired .result .device) (asRaw (c .wired .result .answer)))
-      × (left .at ≡ c .wired .result .at)
-      → ran (beside (asInit (left .answer)) (left .device) (c .wired .last .1 .0) list′) (bus s .tape) (c .wired .last .1 .1 .1 .1 .0) (left .at) ≡ whole s
-  read-is left list′ =
-      came s (roomy (at-room c)) (c .wired .result) (c .wired .last .1 .0) (c .wired .last .1 .1 .0) (c .wired .last .1 .1 .1 .1 .0) left list′
-      (c .wired .ensures)
-
 returns-2 : tie.Need-returns-2
 returns-2 c =
-    read-is (at-read (at-inputs (c .before .before .before))) (c .before .before .store-read .result) _ (c .before .before .store-read .ensures)
+    read-is (at-read (at-inputs (c .before .before .before))) (c .before .before .store-read .result) _
+    (c .before .before .store-read .ensures)
 
 pub read-wired-spec : {M : Type 1} → statement M
 read-wired-spec =

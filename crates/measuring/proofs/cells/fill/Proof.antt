@@ -1,18 +1,19 @@
 -- `measuring::cells::fill` meets its contract: a turn goes on from i numbers to i + 1. Assumes nothing.
-use mathlib.Core.Path.{_≡_, refl, sym, ap, _∙_}
-use mathlib.Core.List.{List, map}
-use Prim.Native.Nat.{ℕ, _<_, _-_, _≤_, zero-le}
+use mathlib.Core.Path.{_≡_, refl, _∙_}
+use mathlib.Core.List.{map}
+use Prim.Native.Nat.{_-_, _≤_, zero-le}
 use native.Mathlib.Omega.{arith}
-use lib.ListN.{length, take, set, getD, length-map, length-set, List·getD-map}
+use lib.ListN.{length, take, length-set}
 use denote.Ref.{now}
 use Rattle.measuring.specs.Inputs.{_over_}
 use Rattle.measuring.specs.Cells.{volts}
-use Rattle.measuring.proofs.Lists.{over-step}
+use Rattle.measuring.proofs.Lists.{map-next}
 use Rattle.measuring.proofs.cells.fill.Statement.{statement}
 use Rattle.measuring.proofs.cells.fill.Tie as tie
 
 abbrev Inv-loop : tie.InvT-loop
-Inv-loop n list₀ cells i₀ list i = (i ≤ n) × (list ≡ take i (map volts cells) over list₀) × (length list ≡ length list₀) × (length cells ≡ 15)
+Inv-loop n list₀ cells i₀ list i =
+    (i ≤ n) × (list ≡ take i (map volts cells) over list₀) × (length list ≡ length list₀) × (length cells ≡ 15)
 
 abbrev μ-loop : tie.MeasureT-loop
 μ-loop n list₀ cells i₀ list i = n - i
@@ -41,14 +42,9 @@ loop-less c = omega arith
 loop-again : tie.Need-loop-again Inv-loop μ-loop
 loop-again c =
     let l = c .before .before .loop in
-    let cells = c .before .before .before .args .t2 in
-    let list = now (c .before .before .before .args .list) in
-    let vs = map volts cells in
-    let more : l .i < length vs = rw (length-map cells volts) (omega arith) in (
+    let a = c .before .before .before .args in (
       omega arith,
-      ap (λ (x : List ℕ). set x (l .i) (getD cells (l .i) (record { 0 = 0 }) .0)) (l .inv .1)
-          ∙ ap (set (take (l .i) vs over list) (l .i)) (sym (List·getD-map volts cells (l .i) (record { 0 = 0 })))
-          ∙ over-step vs list (l .i) 0 more (omega arith),
+      map-next volts (a .t2) (now (a .list)) (l .i) (record { 0 = 0 }) (l .inv .1) refl (omega arith) (omega arith),
       simp length-set (l .inv .2),
       l .inv .3,
     )

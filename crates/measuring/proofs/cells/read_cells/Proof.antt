@@ -11,7 +11,7 @@ use Rattle.refusals.specs.Refusal.{Refusal, Answer, value, refused, answering}
 use Rattle.bus.specs.Transfers.{Bus, busOf}
 use Rattle.bus.specs.Programs.{Ran, onTape}
 use Rattle.bus.specs.Raw.{Done, asRaw}
-use Rattle.bq769x0.specs.Record.{withCells}
+use Rattle.bq769x0.specs.Record.{withReadings}
 use Rattle.bq769x0.specs.declared.BQ769x0.{BQ769x0}
 use Rattle.measuring.specs.Inputs.{_over_, asCells, readInputs}
 use Rattle.measuring.specs.Moves.{moves, inTurn}
@@ -33,51 +33,61 @@ module _ (s : tie.Start) where
   abbrev whole : Ran Filled
   whole = onTape (readCells device list) bus
 
-  -- by the answer `a` of the read, with the inputs that it gives
-  module _ (a : Answer Done) (inputs : List ℤ) (b : Bus) (read : record { answer = answering a inputs; bus = b } ≡ onTape (readInputs device) bus) where
-    off : (r : Refusal) → a ≡ refused r → whole ≡ record { answer = untouched device list r; bus = b }
-    unfolding readCells
-    off r e = unread device 0 (untouched device list) (λ inputs. listed (taking device inputs) list) bus a inputs b read r e
+  abbrev give : List ℤ → Filled
+  give inputs = listed (taking device inputs) list
 
+  -- what comes of it, by the answer `a` of the read and the inputs that it gives
+  record Read (a : Answer Done) (inputs : List ℤ) (b : Bus) : Type 0 where
+    off : {r : Refusal} → a ≡ refused r → whole ≡ record { answer = untouched device list r; bus = b }
     on : {stored cells : List MilliVolts} {left : BQ769x0} {list′ : List ℕ} → a ≡ value tt
-        → stored ≡ asCells inputs over device .cells
-        → cells ≡ inTurn (moves (device .x) (device .«cell_count»)) stored
-        → left ≡ withCells device cells
+        → stored ≡ asCells inputs over device .readings .cells
+        → cells ≡ inTurn (moves (device .link .x) (device .«cell_count»)) stored
+        → left ≡ withReadings device (record { cells = cells })
         → list′ ≡ firstCells (device .«cell_count») cells over list
-        → record { answer = filled (value tt) left list′; bus = b } ≡ whole
-    unfolding readCells
-    on e first moved kept lists =
+        → whole ≡ record { answer = filled (value tt) left list′; bus = b }
+
+  read : (a : Answer Done) (inputs : List ℤ) (b : Bus)
+      → record { answer = answering a inputs; bus = b } ≡ onTape (readInputs (device .link) (device .adc)) bus
+      → Read a inputs b
+  unfolding readCells
+  read a inputs b e = record {
+    off = λ t. unread device 0 (untouched device list) give bus a inputs b e _ t;
+    on = λ t first moved kept lists.
         rw (lists, taken device inputs first moved kept, cells-taken device inputs first moved)
-        (sym (given device 0 (untouched device list) (λ inputs. listed (taking device inputs) list) bus a inputs b read e))
+        (given device 0 (untouched device list) give bus a inputs b e t);
+  }
 
 -- ---- the places, each from the next
-abbrev at-start : tie.After-read-inputs-arg → tie.Start
-at-start c = c .before .before .before .before .before
+abbrev at-start : tie.After-link → tie.Start
+at-start c = c .before .before .before .before
 
 abbrev at-read : tie.After-next → tie.After-read-inputs
 at-read c = c .before .before .before .before
 
-module _ (c : tie.After-read-inputs) where
-  abbrev start : tie.Start
-  start = at-start (c .before)
-
-  abbrev inputs : List ℤ
-  inputs = take (device start .x) (c .read-inputs .result .millivolts)
-
-  abbrev after : Bus
-  after = busOf (now (start .args .tape)) (c .read-inputs .last .1 .1 .0) (c .read-inputs .result .at)
-
-  read-off : (r : Refusal) → asRaw (c .read-inputs .result .answer) ≡ refused r → whole start ≡ record { answer = untouched (device start) (list start) r; bus = after }
-  read-off = off start (asRaw (c .read-inputs .result .answer)) inputs after (c .read-inputs .ensures)
-
 abbrev at-told : tie.After-in-turn → tie.After-enum-told
 at-told c = c .before .before
 
-abbrev at-cells : tie.After-store-cells → tie.After-in-turn
-at-cells c = c .before .before .before .before .before
+abbrev at-cells : tie.After-fill → tie.After-in-turn
+at-cells c = c .before .before
 
+abbrev at-fill : tie.After-store-readings → tie.After-fill
+at-fill c = c .before .before .before
+
+-- ---- after the read
+module _ (c : tie.After-read-inputs) where
+  abbrev start : tie.Start
+  start = at-start (c .before .before .before)
+
+  after-read : Read
+      start
+      (asRaw (c .read-inputs .result .answer))
+      (take (device start .link .x) (c .read-inputs .result .millivolts))
+      (busOf (now (start .args .tape)) (c .read-inputs .last .1 .1 .1 .0) (c .read-inputs .result .at))
+  after-read = read start (asRaw (c .read-inputs .result .answer)) _ _ (c .read-inputs .ensures)
+
+-- ---- the needs
 read-inputs-requires : tie.Need-read-inputs-requires
-read-inputs-requires c κs = at-start c .pre .0 .0
+read-inputs-requires c κs = at-start (c .before .before) .pre .0 .0
 
 enum-told : tie.Need-enum-told
 enum-told c = search needs
@@ -91,13 +101,13 @@ same-length c = search needs
 returns : tie.Need-returns
 returns c =
     let t = ap asRaw (c .enum-told2 .given .1) in
-    rw t (sym (read-off (at-read (c .before .before)) _ t))
+    rw t (sym (after-read (at-read (c .before .before)) .off t))
 
 cast-stored : tie.Need-cast-stored
 cast-stored c = search needs
 
 stored-requires : tie.Need-stored-requires
-stored-requires c κs = at-start (at-read (c .before .before) .before) .pre .0 .0
+stored-requires c κs = start (at-read (c .before .before)) .pre .0 .0
 
 in-turn-requires : tie.Need-in-turn-requires
 in-turn-requires c κs = search needs
@@ -110,8 +120,8 @@ fill-requires c κs =
     let s = start (at-read (at-told (c .before) .before .before)) in
     (s .pre .0 .1, s .pre .1)
 
-store-cells-requires : tie.Need-store-cells-requires
-store-cells-requires c κs = search needs
+store-readings-requires : tie.Need-store-readings-requires
+store-readings-requires c κs = search needs
 
 same-length-2 : tie.Need-same-length-2
 same-length-2 c = search needs
@@ -121,11 +131,11 @@ same-length-3 c = search needs
 
 returns-2 : tie.Need-returns-2
 returns-2 c =
-    let t = ap asRaw (at-told (at-cells c) .enum-told .given .1) in
-    let read = at-read (at-told (at-cells c) .before .before) in
+    let cells = at-cells (at-fill c) in
+    let t = ap asRaw (at-told cells .enum-told .given .1) in
     rw t
-    (on (start read) (asRaw (read .read-inputs .result .answer)) (inputs read) (after read) (read .read-inputs .ensures) t
-    (at-cells c .before .stored .ensures) (at-cells c .in-turn .ensures) (c .store-cells .ensures) (c .before .before .before .fill .ensures))
+    (sym (after-read (at-read (at-told cells .before .before)) .on t
+    (cells .before .stored .ensures) (cells .in-turn .ensures) (c .store-readings .ensures) (at-fill c .fill .ensures)))
 
 pub read-cells-spec : {M : Type 1} → statement M
 read-cells-spec =
@@ -141,7 +151,7 @@ read-cells-spec =
     in-turn-requires
     cast-fill
     fill-requires
-    store-cells-requires
+    store-readings-requires
     same-length-2
     same-length-3
     returns-2)

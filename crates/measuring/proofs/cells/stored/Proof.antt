@@ -1,25 +1,33 @@
 -- `measuring::cells::stored` meets its contract: a turn goes on from i cells to i + 1. Assumes nothing.
-use mathlib.Core.Path.{_≡_, refl, sym, ap, _∙_}
-use mathlib.Core.List.{List}
-use Prim.Native.Nat.{ℕ, _-_, _≤_, _<_, zero-le}
+use mathlib.Core.Path.{_≡_, refl, ap, _∙_}
+use Prim.Native.Nat.{_-_, _≤_, zero-le}
 use native.Mathlib.Omega.{arith}
-use lib.IntN.{pos}
-use lib.ListN.{length, take, set, getD, length-map, List·getD-map}
+use lib.IntN.{ℤ, pos}
+use lib.ListN.{length, take, getD}
 use mir.Syntax.{w32}
-use Rattle.signed.specs.Numbers.{asU32}
-use Rattle.signed.proofs.Signed.{read-back}
-use Rattle.units.specs.declared.MilliVolts.{MilliVolts}
+use Rattle.numbers.specs.Numbers.{asU32}
+use Rattle.numbers.proofs.Signed.{read-back}
 use Rattle.measuring.specs.Inputs.{_over_, asCell, asCells}
-use Rattle.measuring.proofs.Lists.{over-step, map-take}
+use Rattle.measuring.specs.Cells.{named}
+use Rattle.measuring.proofs.Lists.{map-next, map-take}
 use borrow.Author.Needs.{needs}
 use Rattle.measuring.proofs.cells.stored.Statement.{statement}
 use Rattle.measuring.proofs.cells.stored.Tie as tie
 
 abbrev Inv-loop : tie.InvT-loop
-Inv-loop n inputs out₀ i₀ out i = (i ≤ n) × (out ≡ take i (asCells inputs) over out₀) × (length inputs ≡ 15) × (length out₀ ≡ 15)
+Inv-loop n inputs out₀ i₀ out i =
+    (i ≤ n) × (out ≡ take i (asCells inputs) over out₀) × (length inputs ≡ 15) × (length out₀ ≡ 15)
 
 abbrev μ-loop : tie.MeasureT-loop
 μ-loop n inputs out₀ i₀ out i = n - i
+
+-- the number made of the next input
+module _ (c : tie.After-as-u32 Inv-loop μ-loop) where
+  abbrev input : ℤ
+  input = getD (c .before .before .before .before .args .t2) (c .before .before .before .loop .i) (pos 0)
+
+  made : c .as-u32 .result ≡ asU32 input
+  made = c .as-u32 .ensures ∙ ap asU32 (read-back w32 input (c .before .input .given))
 
 loop-holds : tie.Need-loop-holds Inv-loop μ-loop
 loop-holds c = (zero-le, refl, c .good .1 .0 .1 .0 .1, c .good .1 .1 .0 .1 .0 .1)
@@ -48,15 +56,9 @@ loop-less c = omega arith
 loop-again : tie.Need-loop-again Inv-loop μ-loop
 loop-again c =
     let l = c .before .before .before .loop in
-    let a = c .before .before .before .before .args in
-    let inputs = a .t2 in
-    let more : l .i < length (asCells inputs) = rw (length-map inputs asCell) (omega arith) in
-    let made : c .as-u32 .result ≡ asU32 (getD inputs (l .i) (pos 0)) = c .as-u32 .ensures ∙ ap asU32 (read-back w32 (getD inputs (l .i) (pos 0)) (c .before .input .given)) in (
+    let a = c .before .before .before .before .args in (
       omega arith,
-      ap (λ (x : List MilliVolts). set x (l .i) (record { 0 = c .as-u32 .result })) (l .inv .1)
-          ∙ ap (λ (n : ℕ). set (take (l .i) (asCells inputs) over a .cells) (l .i) (record { 0 = n })) made
-          ∙ ap (set (take (l .i) (asCells inputs) over a .cells) (l .i)) (sym (List·getD-map asCell inputs (l .i) (pos 0)))
-          ∙ over-step (asCells inputs) (a .cells) (l .i) (asCell (pos 0)) more (omega arith),
+      map-next asCell (a .t2) (a .cells) (l .i) (pos 0) (l .inv .1) (ap named (made c)) (omega arith) (omega arith),
       l .inv .2,
       l .inv .3,
     )

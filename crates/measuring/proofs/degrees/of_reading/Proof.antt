@@ -6,7 +6,7 @@ use lib.IntN.{ℤ, pos, _*ℤ_}
 use mir.Syntax.{w32}
 use mir.Val.{SFits, toZ, ofZ}
 use mir.Facts.{toZ-ofZ}
-use Rattle.signed.proofs.Signed.{read-wider}
+use Rattle.numbers.proofs.Signed.{read-wider}
 use borrow.Author.Needs.{needs}
 use Rattle.measuring.proofs.degrees.of_reading.Statement.{statement}
 use Rattle.measuring.proofs.degrees.of_reading.Tie as tie

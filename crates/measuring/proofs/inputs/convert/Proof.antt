@@ -1,17 +1,18 @@
 -- `measuring::inputs::convert` meets its contract: a turn goes on from i inputs to i + 1. Assumes nothing.
 use mathlib.Core.Path.{_≡_, refl, sym, ap, _∙_}
 use mathlib.Core.List.{List}
-use Prim.Native.Nat.{_-_, _/_, _≤_, zero-le}
+use Prim.Native.Nat.{ℕ, _-_, _/_, _≤_, _<_, zero-le}
 use native.Mathlib.Omega.{arith}
-use lib.IntN.{ℤ, pos}
-use lib.ListN.{length, replicate, set, take}
+use lib.IntN.{pos}
+use lib.ListN.{length, replicate, take, getD}
 use mir.Syntax.{w32}
 use mir.Val.{toZ, ofZ}
 use denote.Ref.{now}
-use Rattle.signed.proofs.Signed.{read-back}
+use Rattle.numbers.proofs.Signed.{read-back}
 use Rattle.adc.specs.Conversion.{millivolts}
+use Rattle.adc.specs.declared.transfer.AdcTransferFunction.{AdcTransferFunction}
 use Rattle.measuring.specs.Inputs.{_over_, converted}
-use Rattle.measuring.proofs.Lists.{over-step, length-converted, converted-at, all-converted}
+use Rattle.measuring.proofs.Lists.{over-next, length-converted, converted-at, all-converted}
 use Rattle.measuring.proofs.inputs.convert.Statement.{statement}
 use Rattle.measuring.proofs.inputs.convert.Tie as tie
 
@@ -21,6 +22,37 @@ Inv-loop adc buf n inputs₀ i₀ inputs i = (i ≤ n) × (inputs ≡ take i (co
 abbrev μ-loop : tie.MeasureT-loop
 μ-loop adc buf n inputs₀ i₀ inputs i = n - i
 
+-- ---- at the loop: what is given
+module _ (l : tie.At-loop Inv-loop μ-loop) where
+  abbrev adc : AdcTransferFunction
+  adc = l .before .before .args .adc
+
+  abbrev bytes : List ℕ
+  bytes = now (l .before .before .args .buf)
+
+-- ---- in a turn: the number made of the next two bytes
+abbrev at-loop : tie.After-be-u16 Inv-loop μ-loop → tie.At-loop Inv-loop μ-loop
+at-loop c = c .before .before .before .before
+
+module _ (c : tie.After-millivolts Inv-loop μ-loop) where
+  abbrev turn : tie.At-loop Inv-loop μ-loop
+  turn = at-loop (c .before)
+
+  abbrev i : ℕ
+  i = turn .loop .i
+
+  made : toZ w32 (ofZ w32 (c .millivolts .result))
+      ≡ getD (converted (adc turn) (bytes turn)) i (millivolts (adc turn .gain) (adc turn .offset) 0)
+  made =
+      read-back w32 (c .millivolts .result) (c .millivolts .ok)
+      ∙ c .millivolts .ensures
+      ∙ ap (millivolts (adc turn .gain) (adc turn .offset)) (c .before .be-u16 .ensures)
+      ∙ sym (converted-at (adc turn) (bytes turn) i (omega arith))
+
+  one-more : i < length (converted (adc turn) (bytes turn))
+  one-more = omega (arith, length-converted (adc turn) (bytes turn))
+
+-- ---- the needs
 loop-holds : tie.Need-loop-holds Inv-loop μ-loop
 loop-holds c = (zero-le, refl)
 
@@ -58,27 +90,16 @@ loop-less : tie.Need-loop-less Inv-loop μ-loop
 loop-less c = omega arith
 
 loop-again : tie.Need-loop-again Inv-loop μ-loop
-loop-again c =
-    let a = c .before .before .before .before .before .before .before .args in
-    let i = c .before .before .before .before .before .loop .i in
-    let zeros : List ℤ = replicate 15 (pos 0) in
-    let at = converted-at (a .adc) (now (a .buf)) i (omega arith) in
-    let made =
-    read-back w32 _ (c .millivolts .ok)
-    ∙ c .millivolts .ensures
-    ∙ ap (millivolts (a .adc .gain) (a .adc .offset)) (c .before .be-u16 .ensures)
-    ∙ sym at in (
-      omega arith,
-      ap (λ (l : List ℤ). set l i (toZ w32 (ofZ w32 (c .millivolts .result)))) (c .before .before .before .before .before .loop .inv .1)
-          ∙ ap (set (take i (converted (a .adc) (now (a .buf))) over zeros) i) made
-          ∙ over-step (converted (a .adc) (now (a .buf))) zeros i _ (omega (arith, length-converted (a .adc) (now (a .buf)))) (omega arith),
-    )
+loop-again c = (
+  omega arith,
+  over-next (converted (adc (turn c)) (bytes (turn c))) (replicate 15 (pos 0)) (i c) _ (turn c .loop .inv .1)
+      (made c) (one-more c) (omega arith),
+)
 
 returns : tie.Need-returns Inv-loop μ-loop
 returns c =
-    let a = c .before .before .before .args in
-    let e : c .before .loop .i ≡ length (now (a .buf)) / 2 = omega arith in
-    c .before .loop .inv .1 ∙ rw (e, all-converted (a .adc) (now (a .buf)))
+    let e : c .before .loop .i ≡ length (bytes (c .before)) / 2 = omega arith in
+    c .before .loop .inv .1 ∙ rw (e, all-converted (adc (c .before)) (bytes (c .before)))
 
 pub convert-spec : {M : Type 1} → statement M
 convert-spec =

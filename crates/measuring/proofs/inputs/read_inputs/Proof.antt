@@ -8,6 +8,9 @@ use borrow.Author.Needs.{needs}
 use Rattle.measuring.proofs.inputs.read_inputs.Statement.{statement}
 use Rattle.measuring.proofs.inputs.read_inputs.Tie as tie
 
+abbrev at-start : tie.After-buf → tie.Start
+at-start c = c .before .before .before .before
+
 cast-n : tie.Need-cast-n
 cast-n c = search needs
 
@@ -21,7 +24,8 @@ slice-aggregate-read-into : tie.Need-slice-aggregate-read-into
 slice-aggregate-read-into c = sym (length-take-le _ _ (omega arith))
 
 read-into-requires : tie.Need-read-into-requires
-read-into-requires c κs = let s = c .before .before .before .before .before in (s .pre, zeros (2 * s .args .device .x) 30 (omega arith))
+read-into-requires c κs =
+    (at-start (c .before) .pre, zeros (2 * at-start (c .before) .args .link .x) 30 (omega arith))
 
 same-length : tie.Need-same-length
 same-length c = search needs

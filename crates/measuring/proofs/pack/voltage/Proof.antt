@@ -1,43 +1,90 @@
 -- `measuring::pack::voltage` meets its contract. Assumes nothing.
 use mathlib.Core.Path.{_≡_, sym, ap, _∙_}
-use mathlib.Core.Bool.{true}
-use borrow.Author.Tests.{not-true, not-false}
+use mathlib.Core.Bool.{true, false}
 use Prim.Native.Nat.{ℕ}
-use Rattle.signed.specs.Numbers.{asU32}
+use denote.Ref.{now}
+use borrow.Author.Tests.{not-true, not-false}
+use Rattle.numbers.specs.Numbers.{asU32}
+use Rattle.refusals.specs.Refusal.{Answer, value, refused, nine}
 use Rattle.adc.specs.Conversion.{packMillivolts}
-use Rattle.adc.specs.declared.transfer.AdcTransferFunction.{AdcTransferFunction}
-use Rattle.bus.specs.Programs.{onTape}
-use Rattle.bus.proofs.Programs.{went-on, went-off}
+use Rattle.bus.specs.Transfers.{Bus, busOf}
+use Rattle.bus.specs.Programs.{Ran, onTape}
 use Rattle.bq769x0.specs.Record.{isSound}
+use Rattle.bq769x0.specs.declared.BQ769x0.{BQ769x0}
 use Rattle.bq769x0.proofs.Soundly.{sound-on, sound-off}
-use Rattle.measuring.specs.Word.{asWord}
+use Rattle.measuring.specs.Word.{asWord, readWord}
 use Rattle.measuring.specs.Pack.{voltage}
+use Rattle.measuring.proofs.Heard.{Heard, heard}
 use borrow.Author.Needs.{needs}
 use Rattle.measuring.proofs.pack.voltage.Statement.{statement}
 use Rattle.measuring.proofs.pack.voltage.Tie as tie
 
-by-adc : (a b : AdcTransferFunction) (reading : ℕ) → a ≡ b
-    → asU32 (packMillivolts 5 (a .gain) (a .offset) reading) ≡ asU32 (packMillivolts 5 (b .gain) (b .offset) reading)
-by-adc a b reading e = ap (λ (x : AdcTransferFunction). asU32 (packMillivolts 5 (x .gain) (x .offset) reading)) e
+-- ---- what is given, and what is to be done with it
+module _ (s : tie.Start) where
+  abbrev device : BQ769x0
+  device = s .args .device
 
-sound : (c : tie.Else1) → isSound (c .before .before .before .before .args .device) ≡ true
-sound c = sym (c .before .is-sound .ensures) ∙ not-false _ (c .if1 .left)
+  abbrev bus : Bus
+  bus = busOf (now (s .args .tape)) (now (s .args .log)) (s .args .at)
 
+  abbrev whole : Ran (Answer ℕ)
+  whole = onTape (voltage device) bus
+
+  abbrev volts : ℕ → Answer ℕ
+  volts reading = value (asU32 (packMillivolts 5 (device .adc .gain) (device .adc .offset) reading))
+
+  refused-9 : isSound device ≡ false → whole ≡ record { answer = refused nine; bus = bus }
+  unfolding voltage
+  refused-9 e = sound-off device (refused nine) _ bus e
+
+  read : isSound device ≡ true → {a : Answer ℕ} {b : Bus}
+      → record { answer = a; bus = b } ≡ onTape (readWord (device .link) 0x2A) bus
+      → Heard whole volts a b
+  unfolding voltage
+  read e = heard (readWord (device .link) 0x2A) volts bus (sound-on device (refused nine) _ bus e)
+
+-- ---- the places, each from a later one
+abbrev at-start : tie.After-is-sound → tie.Start
+at-start c = c .before .before .before
+
+abbrev at-read : tie.After-next → tie.After-read-word
+at-read c = c .before .before .before
+
+abbrev at-answer : tie.After-pack-voltage → tie.After-answer
+at-answer c = c .before .before .before
+
+-- ---- after the test, and after the read
+module _ (c : tie.Else1) where
+  abbrev start : tie.Start
+  start = at-start (c .before)
+
+  sound : isSound (device start) ≡ true
+  sound = sym (c .before .is-sound .ensures) ∙ not-false _ (c .if1 .left)
+
+module _ (c : tie.After-read-word) where
+  abbrev tested : tie.Else1
+  tested = c .before .before
+
+  after-read : Heard
+      (whole (start tested))
+      (volts (start tested))
+      (asWord (c .read-word .result .answer))
+      (busOf (now (start tested .args .tape)) (c .read-word .last .1 .1 .1 .0) (c .read-word .result .at))
+  after-read = read (start tested) (sound tested) (c .read-word .ensures)
+
+-- ---- the needs
 is-sound-requires : tie.Need-is-sound-requires
 is-sound-requires c κs = search needs
 
 returns : tie.Need-returns
-unfolding voltage
-returns c = sym (sound-off _ _ _ _ (sym (c .before .is-sound .ensures) ∙ not-true _ (c .if1 .taken)))
+returns c =
+    sym (refused-9 (at-start (c .before)) (sym (c .before .is-sound .ensures) ∙ not-true _ (c .if1 .taken)))
 
 read-word-requires : tie.Need-read-word-requires
 read-word-requires c κs = search needs
 
 enum-known-answer : tie.Need-enum-known-answer
 enum-known-answer c = search needs
-
-adc-transfer-function-requires : tie.Need-adc-transfer-function-requires
-adc-transfer-function-requires c κs = search needs
 
 pack-voltage-requires : tie.Need-pack-voltage-requires
 pack-voltage-requires c κs = search needs
@@ -49,22 +96,15 @@ same-length : tie.Need-same-length
 same-length c = search needs
 
 returns-2 : tie.Need-returns-2
-unfolding voltage onTape
 returns-2 c =
-    let made = c .pack-voltage .ensures ∙ by-adc _ _ _ (c .before .adc-transfer-function .ensures) in
-    rw made (sym (
-    sound-on _ _ _ _ (sound (c .before .before .before .before .before .before .before .before .before .before))
-    ∙ went-on _ _ _ _ _ _ (sym (c .before .before .before .before .before .before .before .before .read-word .ensures)) _ (ap asWord (c .before .before .before .answer .given .1))))
+    rw (c .pack-voltage .ensures)
+    (sym (after-read (at-read (at-answer c .before .before)) .on (ap asWord (at-answer c .answer .given .1))))
 
 same-length-2 : tie.Need-same-length-2
 same-length-2 c = search needs
 
 returns-3 : tie.Need-returns-3
-unfolding voltage
-returns-3 c =
-    sym (
-    sound-on _ _ _ _ (sound (c .before .before .before .before .before .before .before .before))
-    ∙ went-off _ _ _ _ _ _ (sym (c .before .before .before .before .before .before .read-word .ensures)) _ (ap asWord (c .before .answer2 .given .1)))
+returns-3 c = sym (after-read (at-read (c .before .before .before)) .off (ap asWord (c .before .answer2 .given .1)))
 
 pub voltage-spec : {M : Type 1} → statement M
 voltage-spec =
@@ -74,7 +114,6 @@ voltage-spec =
     returns
     read-word-requires
     enum-known-answer
-    adc-transfer-function-requires
     pack-voltage-requires
     enum-known-answer-2
     same-length

@@ -1,17 +1,17 @@
 -- `measuring::wired::show` meets its contract: a turn goes on from i cells to i + 1. Assumes nothing.
-use mathlib.Core.Path.{_≡_, refl, sym, ap, _∙_}
-use mathlib.Core.List.{List, map}
-use Prim.Native.Nat.{ℕ, _-_, _≤_, _<_, zero-le}
+use mathlib.Core.Path.{_≡_, refl, ap, _∙_}
+use mathlib.Core.List.{map}
+use Prim.Native.Nat.{ℕ, _-_, _≤_, zero-le}
 use native.Mathlib.Omega.{arith}
-use lib.IntN.{pos}
-use lib.ListN.{length, take, set, getD, length-map, length-set, List·getD-map}
+use lib.IntN.{ℤ, pos}
+use lib.ListN.{length, take, getD, length-set}
 use mir.Syntax.{w32}
 use denote.Ref.{now}
-use Rattle.signed.specs.Numbers.{asU32}
-use Rattle.signed.proofs.Signed.{read-back}
+use Rattle.numbers.specs.Numbers.{asU32}
+use Rattle.numbers.proofs.Signed.{read-back}
 use Rattle.measuring.specs.Inputs.{_over_}
 use Rattle.measuring.specs.Wired.{ofInput}
-use Rattle.measuring.proofs.Lists.{over-step, map-take}
+use Rattle.measuring.proofs.Lists.{over-next, map-next, map-take}
 use Rattle.measuring.proofs.wired.show.Statement.{statement}
 use Rattle.measuring.proofs.wired.show.Tie as tie
 
@@ -31,8 +31,27 @@ module _ (c : tie.In-loop Inv-loop μ-loop) where
   one : (1 ≤ getD (start .args .t2) (c .before .loop .i) 0) × (getD (start .args .t2) (c .before .loop .i) 0 ≤ 15)
   one = start .pre .1 (c .before .loop .i) (omega arith)
 
+-- the number made of its reading
+module _ (c : tie.After-as-u32 Inv-loop μ-loop) where
+  abbrev input : ℕ
+  input = getD (start (c .before .before) .args .t2) (c .before .before .before .loop .i) 0
+
+  abbrev reading : ℤ
+  reading = getD (start (c .before .before) .args .t3) (input - 1) (pos 0)
+
+  made : c .as-u32 .result ≡ asU32 reading
+  made = c .as-u32 .ensures ∙ ap asU32 (read-back w32 reading (c .before .reading .given))
+
 loop-holds : tie.Need-loop-holds Inv-loop μ-loop
-loop-holds c = (zero-le, refl, refl, refl, refl, c .before .before .good .1 .0 .1 .0 .1, c .before .before .good .1 .1 .0 .1 .0 .1)
+loop-holds c = (
+  zero-le,
+  refl,
+  refl,
+  refl,
+  refl,
+  c .before .before .good .1 .0 .1 .0 .1,
+  c .before .before .good .1 .1 .0 .1 .0 .1,
+)
 
 array-read-input : tie.Need-array-read-input Inv-loop μ-loop
 array-read-input c = omega arith
@@ -70,18 +89,10 @@ loop-less c = omega arith
 loop-again : tie.Need-loop-again Inv-loop μ-loop
 loop-again c =
     let l = c .before .before .before .loop in
-    let a = start (c .before .before) .args in
-    let inputs = now (a .inputs) in
-    let list = now (a .list) in
-    let volts = map (ofInput (a .t3)) (a .t2) in
-    let more : l .i < length volts = rw (length-map (a .t2) (ofInput (a .t3))) (omega arith) in
-    let made : c .as-u32 .result ≡ ofInput (a .t3) (getD (a .t2) (l .i) 0) =
-    c .as-u32 .ensures ∙ ap asU32 (read-back w32 (getD (a .t3) (getD (a .t2) (l .i) 0 - 1) (pos 0)) (c .before .reading .given)) in (
+    let a = start (c .before .before) .args in (
       omega arith,
-      ap (λ (x : List ℕ). set x (l .i) (getD (a .t2) (l .i) 0)) (l .inv .1) ∙ over-step (a .t2) inputs (l .i) 0 (omega arith) (omega arith),
-      ap (λ (x : List ℕ). set x (l .i) (c .as-u32 .result)) (l .inv .2)
-          ∙ ap (set (take (l .i) volts over list) (l .i)) (made ∙ sym (List·getD-map (ofInput (a .t3)) (a .t2) (l .i) 0))
-          ∙ over-step volts list (l .i) (ofInput (a .t3) 0) more (omega arith),
+      over-next (a .t2) (now (a .inputs)) (l .i) 0 (l .inv .1) refl (omega arith) (omega arith),
+      map-next (ofInput (a .t3)) (a .t2) (now (a .list)) (l .i) 0 (l .inv .2) (made c) (omega arith) (omega arith),
       simp length-set (l .inv .3),
       simp length-set (l .inv .4),
       l .inv .5,

@@ -1,20 +1,20 @@
 -- `measuring::wired::wired` meets its contract. Assumes nothing.
 use mathlib.Core.Path.{_≡_, sym, _∙_}
-use mathlib.Core.Bool.{true, false}
-use mathlib.Core.List.{List, []}
-use Prim.Native.Nat.{ℕ, _≤_, _<_, min}
+use mathlib.Core.Bool.{true}
+use mathlib.Core.List.{List}
+use Prim.Native.Nat.{ℕ, _≤_, min}
 use native.Mathlib.Omega.{arith}
 use lib.ListN.{length}
 use denote.Ref.{now}
 use borrow.Author.Needs.{needs}
 use borrow.Author.Tests.{not-true, not-false}
-use Rattle.refusals.specs.Refusal.{Refusal, no}
+use Rattle.refusals.specs.Refusal.{Refusal}
 use Rattle.bus.specs.Transfers.{Bus, busOf}
 use Rattle.bus.specs.Programs.{Ran, onTape}
-use Rattle.bq769x0.specs.Record.{nine, isSound}
+use Rattle.bq769x0.specs.Record.{isSound}
 use Rattle.bq769x0.specs.declared.BQ769x0.{BQ769x0}
 use Rattle.measuring.specs.Wired.{Shown, unshown, showing, readWired, wired}
-use Rattle.measuring.proofs.Reading.{unsound, unmarked, cramped, roomy}
+use Rattle.measuring.proofs.Reading.{Tested, tested}
 use Rattle.measuring.proofs.wired.wired.Statement.{statement}
 use Rattle.measuring.proofs.wired.wired.Tie as tie
 
@@ -41,26 +41,13 @@ module _ (s : tie.Start) where
   abbrev room : ℕ
   room = min (length inputs) (length list)
 
-  refused-9 : isSound device ≡ false → whole ≡ record { answer = leave nine; bus = bus }
+  tests : Tested device room leave bus whole (onTape (readWired device inputs list) bus)
   unfolding wired readWired
-  refused-9 = unsound device room leave (showing device inputs list) bus
-
-  refused-4 : isSound device ≡ true → device .«init_complete» ≡ false → whole ≡ record { answer = leave (no 4 []); bus = bus }
-  unfolding wired readWired
-  refused-4 = unmarked device room leave (showing device inputs list) bus
-
-  refused-19 : isSound device ≡ true → device .«init_complete» ≡ true → room < device .«cell_count»
-      → whole ≡ record { answer = leave (no 19 []); bus = bus }
-  unfolding wired readWired
-  refused-19 = cramped device room leave (showing device inputs list) bus
-
-  goes-on : isSound device ≡ true → device .«init_complete» ≡ true → device .«cell_count» ≤ room → whole ≡ onTape (readWired device inputs list) bus
-  unfolding wired readWired
-  goes-on = roomy device room leave (showing device inputs list) bus
+  tests = tested device room leave (showing device inputs list) bus
 
 -- ---- the places, each from the next
-abbrev at-start : tie.After-is-sound → tie.Start
-at-start c = c .before .before .before .before .before
+abbrev at-start : tie.After-slice-known3 → tie.Start
+at-start c = c .before .before .before .before
 
 abbrev at-sound : tie.Else2 → tie.Else1
 at-sound c = c .before .before
@@ -71,12 +58,12 @@ at-marked c = c .before .before
 abbrev at-one : tie.Else4 → tie.Else3
 at-one c = c .before .before
 
-abbrev at-read : tie.After-slice-known6 → tie.After-read-wired
-at-read c = c .before .before .before .before .before .before
+abbrev at-read : tie.After-slice-known5 → tie.After-read-wired
+at-read c = c .before .before .before .before
 
 module _ (c : tie.Else1) where
   abbrev start : tie.Start
-  start = at-start (c .before)
+  start = at-start (c .before .before)
 
   sound : isSound (device start) ≡ true
   sound = sym (c .before .is-sound .ensures) ∙ not-false _ (c .if1 .left)
@@ -85,14 +72,17 @@ marked : (c : tie.Else2) → device (start (at-sound c)) .«init_complete» ≡ 
 marked c = not-false _ (c .if2 .left)
 
 module _ (c : tie.Else4) where
-  abbrev tested : tie.Start
-  tested = start (at-sound (at-marked (at-one c)))
+  abbrev given : tie.Start
+  given = start (at-sound (at-marked (at-one c)))
 
-  rooms : (device tested .«cell_count» ≤ length (inputs tested)) × (device tested .«cell_count» ≤ length (list tested))
+  rooms : (device given .«cell_count» ≤ length (inputs given))
+      × (device given .«cell_count» ≤ length (list given))
   rooms = (at-one c .if3 .left, c .if4 .left)
 
-  passed : whole tested ≡ onTape (readWired (device tested) (inputs tested) (list tested)) (bus tested)
-  passed = goes-on tested (sound (at-sound (at-marked (at-one c)))) (marked (at-marked (at-one c))) (omega (arith, rooms))
+  passed : whole given ≡ onTape (readWired (device given) (inputs given) (list given)) (bus given)
+  passed =
+      tests given .roomy (sound (at-sound (at-marked (at-one c)))) (marked (at-marked (at-one c)))
+      (omega (arith, rooms))
 
 is-sound-requires : tie.Need-is-sound-requires
 is-sound-requires c κs = search needs
@@ -103,15 +93,17 @@ refuse-requires c κs = search needs
 returns : tie.Need-returns
 returns c =
     rw (c .refuse .ensures .0, c .refuse .ensures .1, c .refuse .ensures .2)
-    (sym (refused-9 (at-start (c .before .before)) (sym (c .before .before .is-sound .ensures) ∙ not-true _ (c .before .if1 .taken))))
+    (sym (tests (at-start (c .before .before .before)) .unsound
+    (sym (c .before .before .is-sound .ensures) ∙ not-true _ (c .before .if1 .taken))))
 
 refuse-requires-2 : tie.Need-refuse-requires-2
 refuse-requires-2 c κs = search needs
 
 returns-2 : tie.Need-returns-2
 returns-2 c =
+    let sounds = c .before .before .before in
     rw (c .refuse2 .ensures .0, c .refuse2 .ensures .1, c .refuse2 .ensures .2)
-    (sym (refused-4 (start (c .before .before .before)) (sound (c .before .before .before)) (not-true _ (c .before .if2 .taken))))
+    (sym (tests (start sounds) .unmarked (sound sounds) (not-true _ (c .before .if2 .taken))))
 
 cast-if3 : tie.Need-cast-if3
 cast-if3 c = search needs
@@ -123,7 +115,8 @@ returns-3 : tie.Need-returns-3
 returns-3 c =
     let marks = c .before .before .before in
     rw (c .refuse3 .ensures .0, c .refuse3 .ensures .1, c .refuse3 .ensures .2)
-    (sym (refused-19 (start (at-sound marks)) (sound (at-sound marks)) (marked marks) (omega (arith, c .before .if3 .taken))))
+    (sym (tests (start (at-sound marks)) .cramped (sound (at-sound marks)) (marked marks)
+    (omega (arith, c .before .if3 .taken))))
 
 cast-if4 : tie.Need-cast-if4
 cast-if4 c = search needs
@@ -135,7 +128,8 @@ returns-4 : tie.Need-returns-4
 returns-4 c =
     let marks = at-marked (c .before .before .before) in
     rw (c .refuse4 .ensures .0, c .refuse4 .ensures .1, c .refuse4 .ensures .2)
-    (sym (refused-19 (start (at-sound marks)) (sound (at-sound marks)) (marked marks) (omega (arith, c .before .if4 .taken))))
+    (sym (tests (start (at-sound marks)) .cramped (sound (at-sound marks)) (marked marks)
+    (omega (arith, c .before .if4 .taken))))
 
 read-wired-requires : tie.Need-read-wired-requires
 read-wired-requires c κs =
@@ -152,7 +146,9 @@ same-length-3 : tie.Need-same-length-3
 same-length-3 c = search needs
 
 returns-5 : tie.Need-returns-5
-returns-5 c = at-read c .read-wired .ensures ∙ sym (passed (at-read c .before .before .before .before))
+returns-5 c =
+    at-read (c .before .before) .read-wired .ensures
+    ∙ sym (passed (at-read (c .before .before) .before .before .before .before))
 
 pub wired-spec : {M : Type 1} → statement M
 wired-spec =

@@ -1,15 +1,15 @@
 -- `refusals::Error::number` meets its contract. Assumes nothing.
 use borrow.Author.Needs.{needs}
 use mathlib.Core.Path.{ap}
-use Rattle.refusals.specs.declared.Told.{Told}
+use Rattle.refusals.specs.declared.InNumbers.{InNumbers}
 use Rattle.refusals.proofs.Error.number.Statement.{statement}
 use Rattle.refusals.proofs.Error.number.Tie as tie
 
-told-requires : tie.Need-told-requires
-told-requires c κs = search needs
+in-numbers-requires : tie.Need-in-numbers-requires
+in-numbers-requires c κs = search needs
 
 returns : tie.Need-returns
-returns c = ap (λ (t : Told). t .0) (c .told .ensures)
+returns c = ap (λ (t : InNumbers). t .0) (c .in-numbers .ensures)
 
 pub number-spec : {M : Type 1} → statement M
-number-spec = tie.close (tie.spec told-requires returns)
+number-spec = tie.close (tie.spec in-numbers-requires returns)

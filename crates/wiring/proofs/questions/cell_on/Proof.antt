@@ -18,11 +18,14 @@ size : (c : tie.Else1) → isSize (c .before .before .args .x) ≡ true
 size c = sym (c .before .is-size .ensures) ∙ not-false _ (c .if1 .left)
 
 module _ (c : tie.Else2) where
+  abbrev start : tie.Start
+  start = c .before .before .before .before
+
   abbrev x : ℕ
-  x = c .before .before .before .before .args .x
+  x = start .args .x
 
   abbrev n : ℕ
-  n = c .before .before .before .before .args .cells
+  n = start .args .cells
 
   count : isCount x n ≡ true
   count = sym (c .before .is-count .ensures) ∙ not-false _ (c .if2 .left)
@@ -59,8 +62,8 @@ place-requires c κs = few (c .before)
 returns-3 : tie.Need-returns-3
 unfolding cellOn
 returns-3 c =
-    c .place .ensures
-    ∙ simp (c .before .fitted .ensures, size (c .before .before .before .before), count (c .before .before), whole (c .before .before))
+    let k = c .before .before in
+    c .place .ensures ∙ simp (c .before .fitted .ensures, size (k .before .before), count k, whole k)
 
 pub cell-on-spec : {M : Type 1} → statement M
 cell-on-spec =

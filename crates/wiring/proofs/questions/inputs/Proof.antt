@@ -11,8 +11,12 @@ use Rattle.wiring.proofs.questions.inputs.Tie as tie
 size : (c : tie.Else1) → isSize (c .before .before .args .x) ≡ true
 size c = sym (c .before .is-size .ensures) ∙ not-false _ (c .if1 .left)
 
-count : (c : tie.Else2) → isCount (c .before .before .before .before .args .x) (c .before .before .before .before .args .cells) ≡ true
-count c = sym (c .before .is-count .ensures) ∙ not-false _ (c .if2 .left)
+module _ (c : tie.Else2) where
+  abbrev start : tie.Start
+  start = c .before .before .before .before
+
+  count : isCount (start .args .x) (start .args .cells) ≡ true
+  count = sym (c .before .is-count .ensures) ∙ not-false _ (c .if2 .left)
 
 is-size-requires : tie.Need-is-size-requires
 is-size-requires c κs = search needs

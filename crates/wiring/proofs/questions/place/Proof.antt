@@ -20,15 +20,28 @@ abbrev μ-loop : tie.MeasureT-loop
 μ-loop cells input inputs cell₀ cell = cells - cell
 
 -- what is left to look at, and how long the list is
-module _ (c : tie.In-loop Inv-loop μ-loop) where
+module _ (c : tie.At-loop Inv-loop μ-loop) where
+  abbrev cells : ℕ
+  cells = c .before .args .cells
+
+  abbrev inputs : List ℕ
+  inputs = c .before .args .t1
+
   abbrev fitted : List ℕ
-  fitted = take (c .before .before .args .cells) (c .before .before .args .t1)
+  fitted = take cells inputs
 
-  more : c .before .loop .cell < length fitted
-  more = rw (length-take-le (c .before .before .args .cells) (c .before .before .args .t1) (omega arith)) (omega arith)
+  fitted-length : length fitted ≡ cells
+  fitted-length = length-take-le cells inputs (omega arith)
 
-  next : getD fitted (c .before .loop .cell) 0 ≡ getD (c .before .before .args .t1) (c .before .loop .cell) 0
-  next = getD-take (c .before .before .args .cells) (c .before .before .args .t1) (c .before .loop .cell) 0 (omega arith)
+module _ (c : tie.In-loop Inv-loop μ-loop) where
+  abbrev cell : ℕ
+  cell = c .before .loop .cell
+
+  more : cell < length (fitted (c .before))
+  more = rw (fitted-length (c .before)) (omega arith)
+
+  next : getD (fitted (c .before)) cell 0 ≡ getD (inputs (c .before)) cell 0
+  next = getD-take (cells (c .before)) (inputs (c .before)) cell 0 (omega arith)
 
 loop-holds : tie.Need-loop-holds Inv-loop μ-loop
 loop-holds c = (zero-le, c .pre, c .good .0 .1 .0 .1, refl)
@@ -45,7 +58,9 @@ add-t11 c = omega arith
 returns : tie.Need-returns Inv-loop μ-loop
 returns c =
     let l = c .before .before .loop in
-    rw add-one (sym (l .inv .3 ∙ found-here (fitted (c .before)) (l .cell) _ (more (c .before)) (next (c .before) ∙ c .if1 .taken)))
+    let here = found-here (fitted (c .before .before)) (l .cell) _ (more (c .before))
+    (next (c .before) ∙ c .if1 .taken) in
+    rw add-one (sym (l .inv .3 ∙ here))
 
 add-cell : tie.Need-add-cell Inv-loop μ-loop
 add-cell c = omega arith
@@ -56,15 +71,15 @@ loop-less c = omega arith
 loop-again : tie.Need-loop-again Inv-loop μ-loop
 loop-again c =
     let l = c .before .before .loop in
-    let other = not-here (fitted (c .before)) (l .cell) _ (more (c .before)) (λ e. c .if1 .left (sym (next (c .before)) ∙ e)) in
+    let other = not-here (fitted (c .before .before)) (l .cell) _ (more (c .before))
+    (λ e. c .if1 .left (sym (next (c .before)) ∙ e)) in
     (omega arith, l .inv .1, l .inv .2, rw add-one (l .inv .3 ∙ other))
 
 returns-2 : tie.Need-returns-2 Inv-loop μ-loop
 returns-2 c =
     let l = c .before .loop in
-    let a = c .before .before .args in
-    let end : length (take (a .cells) (a .t1)) ≤ l .cell = rw (length-take-le (a .cells) (a .t1) (omega arith)) (omega arith) in
-    sym (l .inv .3 ∙ nowhere (take (a .cells) (a .t1)) (l .cell) (a .input) end)
+    let end : length (fitted (c .before)) ≤ l .cell = rw (fitted-length (c .before)) (omega arith) in
+    sym (l .inv .3 ∙ nowhere (fitted (c .before)) (l .cell) (c .before .before .args .input) end)
 
 pub place-spec : {M : Type 1} → statement M
 place-spec =

@@ -2,8 +2,8 @@
 use borrow.Author.Needs.{needs}
 use mathlib.Core.Path.{_∙_, ap}
 use mir.Syntax.{w32}
-use Rattle.signed.specs.Numbers.{asU32}
-use Rattle.signed.proofs.Signed.{read-back}
+use Rattle.numbers.specs.Numbers.{asU32}
+use Rattle.numbers.proofs.Signed.{read-back}
 use Rattle.adc.proofs.transfer.AdcTransferFunction.apply.Statement.{statement}
 use Rattle.adc.proofs.transfer.AdcTransferFunction.apply.Tie as tie
 

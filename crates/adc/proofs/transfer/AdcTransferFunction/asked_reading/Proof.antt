@@ -10,7 +10,7 @@ use lib.Signed.{natAbs-le}
 use mir.Syntax.{w8, w64}
 use mir.Val.{SFits, toZ, ofZ}
 use mir.Facts.{toZ-ofZ, toZ-pos, sfits-widen}
-use Rattle.signed.proofs.Signed.{sized, size-sub, size-mul, read-back}
+use Rattle.numbers.proofs.Signed.{sized, size-sub, size-mul, read-back}
 use Rattle.refusals.specs.Refusal.{value}
 use Rattle.adc.proofs.transfer.AdcTransferFunction.asked_reading.Statement.{statement}
 use Rattle.adc.proofs.transfer.AdcTransferFunction.asked_reading.Tie as tie

@@ -5,8 +5,8 @@ use Prim.Native.Nat.{_+_, _*_, _/_, _%_}
 use native.Mathlib.Omega.{arith}
 use mir.Syntax.{w8}
 use mir.Val.{toZ, ofZ}
-use Rattle.signed.specs.Numbers.{asI8}
-use Rattle.signed.proofs.Signed.{read-back}
+use Rattle.numbers.specs.Numbers.{asI8}
+use Rattle.numbers.proofs.Signed.{read-back}
 use Rattle.adc.specs.Registers.{gainOf}
 use Rattle.adc.proofs.transfer.AdcTransferFunction.from_registers.Statement.{statement}
 use Rattle.adc.proofs.transfer.AdcTransferFunction.from_registers.Tie as tie

@@ -1,0 +1,75 @@
+-- `bench::bench_wired` meets its contract. Assumes nothing.
+use denote.Ref.{now}
+use Rattle.bq769x0.specs.declared.BQ769x0.{BQ769x0}
+use Rattle.bus.specs.Programs.{Prog}
+use Rattle.measuring.specs.Wired.{Shown, wired}
+use Rattle.bench.specs.Calls.{asShown}
+use Rattle.bench.proofs.OnRecord.{on-record}
+use borrow.Author.Needs.{needs}
+use Rattle.bench.proofs.bench_wired.Statement.{statement}
+use Rattle.bench.proofs.bench_wired.Tie as tie
+
+-- ---- what is read of a record
+module _ (s : tie.Start) where
+  abbrev reading : BQ769x0 → Prog Shown
+  reading d = wired d (now (s .args .inputs)) (now (s .args .list))
+
+-- ---- the places, each from a later one
+abbrev at-record : tie.After-wired → tie.After-record-by
+at-record c = c .before .before .before .before
+
+abbrev at-lists : tie.After-record-by → tie.After-slice-known2
+at-lists c = c .before .before .before
+
+abbrev at-start : tie.After-wired → tie.Start
+at-start c = at-lists (at-record c) .before .before
+
+abbrev at-at : tie.After-number-of → tie.After-at
+at-at c = c .before .before .before
+
+abbrev at-lent : tie.After-at → tie.After-slice-known5
+at-lent c = c .before .before .before
+
+abbrev at-wired : tie.After-number-of → tie.After-wired
+at-wired c = at-lent (at-at c) .before .before .before .before
+
+-- ---- the needs
+record-by-requires : tie.Need-record-by-requires
+record-by-requires c κs = search needs
+
+wired-requires : tie.Need-wired-requires
+wired-requires c κs = search needs
+
+put-out-requires : tie.Need-put-out-requires
+put-out-requires c κs = search needs
+
+number-of-requires : tie.Need-number-of-requires
+number-of-requires c κs = search needs
+
+same-length : tie.Need-same-length
+same-length c = search needs
+
+same-length-2 : tie.Need-same-length-2
+same-length-2 c = search needs
+
+same-length-3 : tie.Need-same-length-3
+same-length-3 c = search needs
+
+returns : tie.Need-returns
+returns c =
+    rw (c .number-of .ensures, c .before .put-out .ensures)
+    (on-record asShown (reading (at-start (at-wired c))) _
+    (at-record (at-wired c) .record-by .ensures) (at-wired c .wired .ensures))
+
+pub bench-wired-spec : {M : Type 1} → statement M
+bench-wired-spec =
+    tie.close
+    (tie.spec
+    record-by-requires
+    wired-requires
+    put-out-requires
+    number-of-requires
+    same-length
+    same-length-2
+    same-length-3
+    returns)

@@ -1,0 +1,3 @@
+pub mod Bytes
+pub mod Casts
+pub mod Signed

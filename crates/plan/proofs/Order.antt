@@ -1,0 +1,14 @@
+-- The laws by which a proof goes through a call's steps: past one that has a value, and out at one that refuses.
+-- Assumes nothing.
+use mathlib.Core.Path.{_≡_, ap}
+use Rattle.refusals.specs.Refusal.{Answer, value, refused, Refusal}
+use Rattle.plan.specs.Order.{_>>=_}
+
+module _ {A B : Type 0} {a : Answer A} (next : A → Answer B) where
+  pub past : (x : A) → a ≡ value x → a >>= next ≡ next x
+  unfolding _>>=_
+  past x e = ap (λ (b : Answer A). b >>= next) e
+
+  pub out : {r : Refusal} → a ≡ refused r → a >>= next ≡ refused r
+  unfolding _>>=_
+  out e = ap (λ (b : Answer A). b >>= next) e
