@@ -13,9 +13,9 @@ use Rattle.bus.specs.declared.Cursor.{Cursor}
 use Rattle.bq769x0.specs.Record.{Left}
 
 unfoldable pub laid : Cursor → InitNumbers → List ℕ
-laid at five =
+laid at numbers =
     eight (at .tape) ++ eight (at .log)
-    ++ four (five .0) ++ four (five .1) ++ four (five .2) ++ four (five .3) ++ four (five .4)
+    ++ four (numbers .0) ++ four (numbers .1) ++ four (numbers .2) ++ four (numbers .3) ++ four (numbers .4)
 
 abbrev pub layout : Answer Values → Cursor → List ℕ
 layout answer at = laid at (initNumbers answer)
