@@ -15,8 +15,8 @@ use Rattle.bus.specs.declared.Cursor.{Cursor}
 use Rattle.bus.specs.declared.raw.Link.{Link}
 use Rattle.bq769x0.specs.Record.{ofParts}
 use Rattle.bq769x0.specs.declared.BQ769x0.{BQ769x0}
-use Rattle.measuring.specs.Cells.{Filled}
-use Rattle.measuring.specs.Wired.{Shown}
+use Rattle.procedure.specs.Cells.{Filled}
+use Rattle.procedure.specs.Wired.{Shown}
 
 abbrev pub linkBy : ℕ → ℕ → Bool → Link
 linkBy x address check = record { address = address; check = check; x = x }

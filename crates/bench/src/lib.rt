@@ -8,8 +8,8 @@ ghost use Rattle.bus.specs.Transfers.{start};
 ghost use Rattle.bus.specs.Programs.{onTape};
 ghost use Rattle.bus.specs.Lent.{lentBus};
 ghost use Rattle.bus.specs.Raw.{asRaw, readRaw};
-ghost use Rattle.measuring.specs.Cells.{cellVoltages};
-ghost use Rattle.measuring.specs.Wired.{wired};
+ghost use Rattle.procedure.specs.Cells.{cellVoltages};
+ghost use Rattle.procedure.specs.Wired.{wired};
 ghost use Rattle.measuring.specs.Pack.{current};
 ghost use Rattle.bench.specs.Calls.{linkBy, recordBy, flowOf, outOf};
 ghost use Rattle.bench.specs.Calls.{given, shownBy, asRead, asCells, asFlow, asShown};
@@ -19,9 +19,9 @@ use bq769x0::BQ769x0;
 use bus::Cursor;
 use bus::raw::Link;
 use bus::raw::RawAnswer;
-use measuring::cells;
+use cells::crate_list;
+use cells::wired;
 use measuring::pack;
-use measuring::wired;
 use units::MicroOhms;
 
 // A record that was set up with this shunt, where it is not 0; its offset is register 51's.
@@ -96,7 +96,7 @@ pub extern "C" fn bench_read_raw(
         ≡ asRead (onTape (readRaw (linkBy x address check) reg (now («data» .entry))) (lentBus tape log start)) ⌝ }
 {
     let link = Link { address, check, x };
-    let read = link.read_raw(reg, data, tape, log, Cursor { tape: 0, log: 0 });
+    let read = raw::read_raw(link, reg, data, tape, log, Cursor { tape: 0, log: 0 });
     let answer = read.answer;
     let at = read.at;
     put_out(out, at, 0);
@@ -122,7 +122,7 @@ pub extern "C" fn bench_cells(
         (lentBus tape log start)) ⌝ }
 {
     let device = record_by(x, cell_count, address, check, gain, b51, shunt);
-    let read = cells::cell_voltages(device, list, tape, log, Cursor { tape: 0, log: 0 });
+    let read = crate_list::cell_voltages(device, list, tape, log, Cursor { tape: 0, log: 0 });
     let answer = read.answer;
     let at = read.at;
     put_out(out, at, 0);

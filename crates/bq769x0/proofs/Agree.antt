@@ -7,20 +7,15 @@ use mathlib.Core.List.{List}
 use Rattle.laws.proofs.Inverse.{one-to-one}
 use Rattle.refusals.specs.Refusal.{Answer}
 use Rattle.refusals.proofs.OneToOne.{answerBack, undone}
-use Rattle.plan.specs.Plan.{Values, asInit}
-use Rattle.plan.proofs.Agree.{answer-agree}
 use Rattle.bus.specs.Transfers.{Bus}
 use Rattle.bus.specs.Programs.{Prog, Ran, ran, onTape}
-use Rattle.bus.specs.Raw.{Done, asRaw}
+use Rattle.bus.specs.Raw.{Done}
 use Rattle.bus.specs.declared.Cursor.{Cursor}
-use Rattle.bus.proofs.Agree.{raw-agree}
 use Rattle.bq769x0.specs.Record.{Left, leaves, asMade, asNew}
 use Rattle.bq769x0.specs.declared.BQ769x0.{BQ769x0}
 use Rattle.bq769x0.specs.declared.record.New.{New}
 use Rattle.bq769x0.specs.declared.record.NewAnswer.{NewAnswer}
 use Rattle.bq769x0.specs.declared.record.NewAnswer.the-variants as N
-use Rattle.bq769x0.specs.declared.calibrate.Calibrated.{Calibrated}
-use Rattle.bq769x0.specs.declared.init.Init.{Init}
 
 -- `new`
 made : Done → NewAnswer
@@ -53,23 +48,3 @@ module _ {A : Type 0} (p : Prog (Left A)) (b : Bus) where
         ap (λ (x : Ran (Left A)). x .bus .at) same,
         ap (λ (x : Ran (Left A)). x .bus .log) same,
       )
-
--- `read_adc_characteristics`
-pub calibrated-agree : (p : Prog (Left Done)) (b : Bus) (r r′ : Calibrated) (log log′ : List ℕ)
-    → ran (leaves (asRaw (r .answer)) (r .device)) (b .tape) log (r .at) ≡ onTape p b
-    → ran (leaves (asRaw (r′ .answer)) (r′ .device)) (b .tape) log′ (r′ .at) ≡ onTape p b
-    → (r ≡ r′) × (log ≡ log′)
-calibrated-agree p b r r′ log log′ e e′ =
-    let same = left-agree p b (asRaw (r .answer)) (asRaw (r′ .answer)) (r .device) (r′ .device) log log′ (r .at) (r′ .at) e e′ in
-    let a = raw-agree (r .answer) (r′ .answer) (same .0) in
-    (λ i. record { answer = a i; device = same .1 i; at = same .2 i }, same .3)
-
--- `init`
-pub init-agree : (p : Prog (Left Values)) (b : Bus) (r r′ : Init) (log log′ : List ℕ)
-    → ran (leaves (asInit (r .answer)) (r .device)) (b .tape) log (r .at) ≡ onTape p b
-    → ran (leaves (asInit (r′ .answer)) (r′ .device)) (b .tape) log′ (r′ .at) ≡ onTape p b
-    → (r ≡ r′) × (log ≡ log′)
-init-agree p b r r′ log log′ e e′ =
-    let same = left-agree p b (asInit (r .answer)) (asInit (r′ .answer)) (r .device) (r′ .device) log log′ (r .at) (r′ .at) e e′ in
-    let a = answer-agree (r .answer) (r′ .answer) (same .0) in
-    (λ i. record { answer = a i; device = same .1 i; at = same .2 i }, same .3)

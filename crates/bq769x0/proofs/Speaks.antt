@@ -7,7 +7,7 @@ use native.Mathlib.Omega.{arith}
 use lib.Dec.{eqb, leb, ltb}
 use borrow.Author.Tests.{le-leb, ltb-false, eqb-true, not-false}
 use Rattle.refusals.specs.Refusal.{value, refusedIf}
-use Rattle.plan.proofs.Values.{refused-not}
+use Rattle.refusals.proofs.Values.{refused-not}
 use Rattle.bus.specs.Raw.{Done, sound}
 use Rattle.wiring.specs.Sizes.{isSize, isCount}
 use Rattle.bq769x0.specs.Record.{deviceFor, isSound}

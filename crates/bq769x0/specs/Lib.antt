@@ -1,4 +1,2 @@
 pub mod Record
 pub mod Registers
-pub mod Calibrate
-pub mod Init

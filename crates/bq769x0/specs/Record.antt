@@ -8,7 +8,7 @@ use lib.IntN.{ℤ, pos, negsuc}
 use lib.ListN.{replicate}
 use Rattle.refusals.specs.Refusal.{Refusal, Answer, value, refused, refusedIf, asRefusal}
 use Rattle.wiring.specs.Sizes.{within, ofPack}
-use Rattle.bus.specs.Fields.{if_then_else_}
+use Rattle.laws.specs.Choice.{if_then_else_}
 use Rattle.bus.specs.Raw.{Done}
 use Rattle.bus.specs.declared.raw.Link.{Link}
 use Rattle.adc.specs.declared.transfer.AdcTransferFunction.{AdcTransferFunction}

@@ -4,7 +4,7 @@ use Prim.Native.Nat.{ℕ}
 use mathlib.Core.Bool.{not}
 use mathlib.Core.List.{List}
 use Rattle.refusals.specs.Refusal.{Answer}
-use Rattle.bus.specs.Fields.{if_then_else_}
+use Rattle.laws.specs.Choice.{if_then_else_}
 use Rattle.bus.specs.Programs.{Prog, ret}
 use Rattle.bus.specs.Raw.{Done, Read, gives, refuses}
 use Rattle.bus.specs.Raw as link

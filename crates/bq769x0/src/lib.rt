@@ -4,8 +4,6 @@ use bus::raw::Link;
 use units::MicroOhms;
 use units::MilliVolts;
 
-pub mod calibrate;
-pub mod init;
 pub mod record;
 pub mod registers;
 

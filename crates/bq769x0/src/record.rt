@@ -133,7 +133,7 @@ impl BQ769x0 {
         }
     }
 
-    pub(crate) fn store_calibration(self, adc: AdcTransferFunction) -> BQ769x0
+    pub fn store_calibration(self, adc: AdcTransferFunction) -> BQ769x0
         ensures { λ r. ⌜ r ≡ withCalibration self adc ⌝ }
     {
         let mut device = self;
@@ -141,7 +141,7 @@ impl BQ769x0 {
         device
     }
 
-    pub(crate) fn store_shunt(self, shunt: MicroOhms) -> BQ769x0
+    pub fn store_shunt(self, shunt: MicroOhms) -> BQ769x0
         ensures { λ r. ⌜ r ≡ withShunt self shunt ⌝ }
     {
         let mut device = self;

@@ -27,7 +27,7 @@ impl BQ769x0 {
             };
         }
         let link = self.link;
-        link.read_raw(reg_address, data, tape, log, at)
+        raw::read_raw(link, reg_address, data, tape, log, at)
     }
 
     pub fn write_raw(
@@ -47,6 +47,6 @@ impl BQ769x0 {
             };
         }
         let link = self.link;
-        link.write_raw(reg_address, data, tape, log, at)
+        raw::write_raw(link, reg_address, data, tape, log, at)
     }
 }

@@ -13,7 +13,8 @@ use lib.Seq.{take-at, drop-at, length-take-le}
 use lib.Dec.{leb}
 use borrow.Author.Tests.{le-leb, leb-true, eq-eqb}
 use Rattle.numbers.specs.Numbers.{word}
-use Rattle.bus.specs.Fields.{if_then_else_, field, Field, unfield}
+use Rattle.laws.specs.Choice.{if_then_else_}
+use Rattle.bus.specs.Fields.{field, Field, unfield}
 use Rattle.bus.specs.Decoders.{unlog, transfersIn}
 use Rattle.bus.specs.Transfers.{Transfer, write, read, Outcome, done, fault, stopped}
 use Rattle.bus.specs.Transfers.{logField, tapeField, untape, says}

@@ -11,10 +11,10 @@ use native.Mathlib.Omega.{arith}
 use lib.ListN.{length, take, drop, length-append}
 use lib.Dec.{leb}
 use borrow.Author.Tests.{leb-true}
-use Rattle.refusals.specs.Refusal.{no}
+use Rattle.refusals.specs.Refusal.{Refusal}
 use Rattle.frames.specs.Put.{put}
 use Rattle.frames.proofs.Put.{put-none, length-put, put-put, take-before, take-put, drop-put}
-use Rattle.bus.specs.Fields.{if_then_else_}
+use Rattle.laws.specs.Choice.{if_then_else_}
 use Rattle.bus.specs.Transfers.{Transfer, Outcome, done, fault, stopped, Bus}
 use Rattle.bus.specs.Transfers.{logField, tapeField, moved, after, answered, outcome}
 use Rattle.bus.specs.Programs.{Prog, ret, ask, Ran, onTape}
@@ -65,13 +65,13 @@ Delivered (fault bytes) = Unit
 Delivered (stopped r) = ⊥
 
 -- so there was room for its field
-room-if : (m n : ℕ) (o : Outcome) (c : Bool) → leb m n ≡ c → Delivered (if c then o else stopped (no 17 [])) → m ≤ n
-room-if m n o true e d = leb-true _ _ e
-room-if m n o false e d = absurd d
+room-if : (m n : ℕ) (o : Outcome) (r : Refusal) (c : Bool) → leb m n ≡ c → Delivered (if c then o else stopped r) → m ≤ n
+room-if m n o r true e d = leb-true _ _ e
+room-if m n o r false e d = absurd d
 
 room-made : (t : Transfer) (b : Bus) → Delivered (outcome t b) → Room b (logField t)
 unfolding outcome answered
-room-made t b d = room-if _ _ _ _ refl d
+room-made t b d = room-if _ _ _ _ _ refl d
 
 framed-none : (b : Bus) → Framed b b []
 unfolding logged taken

@@ -1,10 +1,11 @@
 pub mod Agree
+pub mod Always
+pub mod Calls
 pub mod Decoders
 pub mod Example
-pub mod Fields
 pub mod Framed
 pub mod Heard
-pub mod Moves
+pub mod Order
 pub mod Programs
 pub mod Raws
 pub mod Reading

@@ -15,7 +15,8 @@ use Rattle.frames.specs.Frames.{readByte, right, dataOf}
 use Rattle.frames.specs.Put.{put}
 use Rattle.frames.proofs.Checked.{length-data}
 use Rattle.frames.proofs.Put.{length-put}
-use Rattle.bus.specs.Fields.{if_then_else_, Field, unfield}
+use Rattle.laws.specs.Choice.{if_then_else_}
+use Rattle.bus.specs.Fields.{Field, unfield}
 use Rattle.bus.specs.Transfers.{Transfer, read, Outcome, done, fault, stopped, Bus}
 use Rattle.bus.specs.Transfers.{logField, wanted, untape, says, answered, outcome}
 use Rattle.bus.specs.Programs.{Prog, ret, Ran, onTape}
@@ -50,14 +51,14 @@ unfolding says
 sized-said n [] = tt
 sized-said n (b ∷ l) = sized-field n (unfield (b ∷ l))
 
-sized-room : (n : ℕ) (l : List ℕ) (room : Bool) → Sized n (if room then says n l else stopped (no 17 []))
-sized-room n l true = sized-said n l
-sized-room n l false = tt
+sized-room : (n : ℕ) (l : List ℕ) (r : Refusal) (room : Bool) → Sized n (if room then says n l else stopped r)
+sized-room n l r true = sized-said n l
+sized-room n l r false = tt
 
 sized : (t : Transfer) (b : Bus) → Sized (wanted t) (outcome t b)
 unfolding outcome answered
 sized t b =
-    sized-room (wanted t) (drop (b .at .tape) (b .tape)) (leb (b .at .log + length (logField t)) (length (b .log)))
+    sized-room (wanted t) (drop (b .at .tape) (b .tape)) _ (leb (b .at .log + length (logField t)) (length (b .log)))
 
 -- ---- the caller's bytes
 plain-size : (buf : List ℕ) (o : Outcome) → Sized (length buf) o → length (plainly buf o .bytes) ≡ length buf

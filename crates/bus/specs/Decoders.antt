@@ -8,7 +8,8 @@ use mathlib.Core.Option.{Option, none, some, bind, Option·map}
 use lib.ListN.{length, drop, getD}
 use lib.Dec.{leb, eqb}
 use Rattle.numbers.specs.Numbers.{word}
-use Rattle.bus.specs.Fields.{if_then_else_, Field, unfield}
+use Rattle.laws.specs.Choice.{if_then_else_}
+use Rattle.bus.specs.Fields.{Field, unfield}
 use Rattle.bus.specs.Transfers.{Transfer, write, read}
 
 unfoldable pub unlog : Field → Option Transfer

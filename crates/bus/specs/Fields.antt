@@ -1,17 +1,12 @@
 -- Fields, of which tape and log are made: a tag byte, a two-byte length, high first, and a value.
 -- Assumes nothing.
 use Prim.Native.Nat.{ℕ, _/_, _%_}
-use mathlib.Core.Bool.{Bool, true, false}
 use mathlib.Core.List.{List, [], _∷_}
 use mathlib.Core.Option.{Option, none, some}
 use lib.ListN.{length, take, drop}
 use lib.Dec.{leb}
+use Rattle.laws.specs.Choice.{if_then_else_}
 use Rattle.numbers.specs.Numbers.{word}
-
-infixr 20 if_then_else_
-abbrev pub if_then_else_ : {A : Type 0} → Bool → A → A → A
-if true then a else b = a
-if false then a else b = b
 
 unfoldable pub field : ℕ → List ℕ → List ℕ
 field tag value = tag ∷ length value / 256 % 256 ∷ length value % 256 ∷ value

@@ -6,7 +6,7 @@ use Prim.Native.Nat.{ℕ}
 use denote.Ref.{RefT, now}
 use denote.Triple.Both.{Both}
 use Rattle.bus.specs.Transfers.{Bus, busOf}
-use Rattle.bus.specs.Programs.{Prog, Ran, ran, onTape}
+use Rattle.bus.specs.Programs.{Prog, ran, onTape}
 use Rattle.bus.specs.declared.Cursor.{Cursor}
 
 -- a caller's bytes: as the function finds them, and as it leaves them

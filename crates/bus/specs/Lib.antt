@@ -4,4 +4,3 @@ pub mod Programs
 pub mod Lent
 pub mod Raw
 pub mod Decoders
-pub mod Replies

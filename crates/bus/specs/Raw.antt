@@ -1,7 +1,7 @@
 -- Reading and writing a chip's registers, with check bytes and without, as programs over transfers.
 -- Assumes nothing.
 use Prim.Native.Nat.{ℕ, suc, _+_, _*_}
-use mathlib.Core.Bool.{Bool, true, false, not, _&&_, _||_}
+use mathlib.Core.Bool.{Bool, not, _&&_, _||_}
 use mathlib.Core.List.{List, [], _∷_}
 use lib.ListN.{length, replicate}
 use lib.IntN.{pos}
@@ -10,8 +10,8 @@ use Rattle.refusals.specs.Refusal.{no, Answer, value, refused, answering, asRef
 use Rattle.wiring.specs.Sizes.{isSize}
 use Rattle.frames.specs.Frames.{readByte, right, dataOf, writeFrame}
 use Rattle.frames.specs.Put.{put}
-use Rattle.bus.specs.Fields.{if_then_else_}
-use Rattle.bus.specs.Transfers.{Transfer, read, write, Outcome, done, fault, stopped}
+use Rattle.laws.specs.Choice.{if_then_else_}
+use Rattle.bus.specs.Transfers.{read, write, Outcome, done, fault, stopped}
 use Rattle.bus.specs.Programs.{Prog, ret, ask, bind, _orLeave_, _>>=_}
 use Rattle.bus.specs.declared.raw.Link.{Link}
 use Rattle.bus.specs.declared.raw.RawAnswer.{RawAnswer}

@@ -1,14 +1,15 @@
 -- One transfer: its field in the log, what the tape says of it, and how it leaves both.
 -- Assumes nothing.
 use Prim.Native.Nat.{ℕ, _+_, _/_, _%_}
-use mathlib.Core.Bool.{Bool, true, false, _&&_}
+use mathlib.Core.Bool.{_&&_}
 use mathlib.Core.List.{List, [], _∷_}
 use mathlib.Core.Option.{Option, none, some}
 use lib.ListN.{length, drop}
 use lib.Dec.{leb, eqb}
 use Rattle.refusals.specs.Refusal.{Refusal, no}
 use Rattle.frames.specs.Put.{put}
-use Rattle.bus.specs.Fields.{if_then_else_, field, Field, unfield}
+use Rattle.laws.specs.Choice.{if_then_else_}
+use Rattle.bus.specs.Fields.{field, Field, unfield}
 use Rattle.bus.specs.declared.Cursor.{Cursor}
 
 pub data Transfer : Type 0 where

@@ -1,6 +1,5 @@
-// Transfers over a reply tape and a transfer log, and the registers of a chip over them.
+// What a call does on the bus is a program over transfers (specs/); here is what it takes and answers.
 pub mod raw;
-mod transfer;
 
 // How far tape and log are used.
 pub struct Cursor {

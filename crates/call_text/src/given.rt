@@ -3,8 +3,6 @@
 ghost use mathlib.Core.Path.{_≡_};
 ghost use Prim.Native.Nat.{_+_, _≤_};
 ghost use lib.ListN.{length};
-use crate::lines;
-use crate::state::State;
 use adc::transfer::AdcTransferFunction;
 use bq769x0::BQ769x0;
 use bq769x0::Readings;
@@ -13,6 +11,7 @@ use bus::raw::Link;
 use calls::HeadAnswer;
 use calls::Heading;
 use job::Device;
+use reading_text::state::State;
 use refusals::Error;
 use units::MicroOhms;
 use units::MilliVolts;

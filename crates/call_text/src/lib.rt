@@ -1,19 +1,17 @@
 // A run of calls with its tape: each call's transfers and its answer printed, and the record last of all.
-use crate::state::State;
 use bq769x0::BQ769x0;
 use bq769x0::record::NewAnswer;
 use bus::Cursor;
 use calls::FieldAnswer;
 use calls::HeadAnswer;
 use calls::Heading;
+use reading_text::crate_list;
+use reading_text::measure;
+use reading_text::state::State;
+use reading_text::wired;
 
-mod change;
 pub mod given;
-mod lines;
-mod measure;
-mod registers;
-mod state;
-mod wired;
+mod init;
 
 // 15, then 9, 10, 11, then the calls.
 pub fn print(input: &[u8]) {
@@ -81,8 +79,8 @@ fn each(input: &[u8], tape: &[u8], state: State, log: &mut [u8]) -> State {
 // Only setting up and reading the cells change the record.
 fn call(tag: u8, value: &[u8], state: State, tape: &[u8], log: &mut [u8]) -> State {
     match tag {
-        0x21 => change::init(value, state, tape, log),
-        0x22 => change::cells(value, state, tape, log),
+        0x21 => init::init(value, state, tape, log),
+        0x22 => crate_list::cells(value, state, tape, log),
         0x34 => wired::wired(value, state, tape, log),
         _ => {
             let device = state.device;
@@ -102,19 +100,11 @@ fn other(
     at: Cursor,
 ) -> Cursor {
     match tag {
-        0x23 => measure::current(device, tape, log, at),
-        0x24 => measure::voltage(device, tape, log, at),
-        0x25 => measure::temperature(device, tape, log, at),
-        0x27 => registers::balancing_state(device, tape, log, at),
-        0x28 => registers::sys_stat(device, tape, log, at),
-        0x2C => registers::is_charge_enabled(device, tape, log, at),
-        0x2D => registers::ship_enter(device, tape, log, at),
-        0x30 => registers::temperature_source(device, tape, log, at),
-        0x32 => registers::read_raw(value, device, tape, log, at),
+        0x23..=0x25 => measure::call(tag, device, tape, log, at),
         0x35 => {
             wired::cell_on(value);
             at
         }
-        _ => registers::command(tag, value, device, tape, log, at),
+        _ => command_text::call(tag, value, device, tape, log, at),
     }
 }

@@ -12,7 +12,7 @@ use lib.Seq.{take-at, drop-at, drop-drop, getD-drop, length-take-le}
 use lib.Dec.{T}
 use borrow.Author.Tests.{le-leb, leb-true, eqb-true, ne-eqb}
 use Rattle.refusals.specs.Refusal.{Answer, value, refused, no}
-use Rattle.plan.proofs.Values.{refused-not, same-value}
+use Rattle.refusals.proofs.Values.{refused-not, same-value}
 use Rattle.job.specs.Jobs.{byteAt, deviceFor}
 use Rattle.job.specs.Encoding.{deviceValue, field}
 use Rattle.job.specs.declared.Device.{Device}

@@ -12,7 +12,7 @@ use lib.Dec.{eqb}
 use borrow.Author.Tests.{le-leb, lt-leb, leb-true}
 use Rattle.numbers.specs.Numbers.{word}
 use Rattle.refusals.specs.Refusal.{Answer, Refusal, value, refused, no}
-use Rattle.plan.proofs.Values.{refused-not, same-value}
+use Rattle.refusals.proofs.Values.{refused-not, same-value}
 use Rattle.job.specs.Jobs.{byteAt, isDevice, deviceOf, deviceFor}
 use Rattle.job.specs.declared.Device.{Device}
 use Rattle.calls.specs.Shapes.{lawful}

@@ -10,7 +10,7 @@ use lib.Dec.{eqb, ltb}
 use borrow.Author.Tests.{ltb-false}
 use Rattle.refusals.specs.Refusal.{Refusal, Answer, value, refused}
 use Rattle.frames.specs.Frames.{writeFrame}
-use Rattle.bus.specs.Fields.{if_then_else_}
+use Rattle.laws.specs.Choice.{if_then_else_}
 use Rattle.bus.specs.Transfers.{Transfer, read, write, Outcome}
 use Rattle.bus.specs.Programs.{Prog, ret, ask, bind, proceed, _orLeave_, _>>=_}
 use Rattle.bus.specs.Raw.{Done, refuses, sound, plainRead, askFrame, checkedRead, readRaw, readBytes}

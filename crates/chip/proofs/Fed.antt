@@ -10,7 +10,7 @@ use native.Mathlib.Omega.{arith}
 use lib.ListN.{length}
 use Rattle.frames.specs.Frames.{writeFrame}
 use Rattle.frames.proofs.Frames.{length-writeFrame}
-use Rattle.bus.specs.Fields.{if_then_else_}
+use Rattle.laws.specs.Choice.{if_then_else_}
 use Rattle.bus.specs.Transfers.{Transfer, write, read, Outcome, done, fault, stopped, logField, tapeField, wanted}
 use Rattle.bus.specs.Programs.{Prog, ret, ask}
 use Rattle.bus.specs.Raw.{readBytes, writeRaw}

@@ -8,7 +8,7 @@ use lib.ListN.{length, replicate}
 use lib.Dec.{eqb, ltb}
 use Rattle.refusals.specs.Refusal.{Refusal, Answer, value, refused, answering}
 use Rattle.frames.specs.Frames.{right}
-use Rattle.bus.specs.Fields.{if_then_else_}
+use Rattle.laws.specs.Choice.{if_then_else_}
 use Rattle.bus.specs.Transfers.{Transfer, Outcome, fault}
 use Rattle.bus.specs.Programs.{Prog, ret, ask, bind, proceed, _orLeave_, _>>=_}
 use Rattle.bus.specs.Raw.{Done, Read, gives, refuses, sound, plainly, whereRight, checkedly, plainRead, askFrame, checkedRead, readRaw}

@@ -10,7 +10,8 @@ use lib.Dec.{eqb}
 use Rattle.check_byte.specs.CheckByte.{checkByte, Bytes}
 use Rattle.frames.specs.Frames.{writeByte}
 use Rattle.frames.proofs.Frames.{bytes-readFrame}
-use Rattle.bus.specs.Fields.{if_then_else_, field}
+use Rattle.laws.specs.Choice.{if_then_else_}
+use Rattle.bus.specs.Fields.{field}
 use Rattle.bus.specs.Transfers.{Transfer, write, read, Outcome, done, fault, stopped, tapeField}
 use Rattle.chip.specs.Devices.{Reached, reached}
 use Rattle.chip.specs.Chip.{begun, arrives, stores, agreed, accepted, storedOf, written, acknowledged, held, shows}

@@ -14,7 +14,7 @@ use borrow.Author.Tests.{eq-eqb, ne-eqb, leb-true, leb-false}
 use Rattle.check_byte.specs.CheckByte.{checkByte}
 use Rattle.frames.specs.Frames.{readByte, checked, framed, readFrame}
 use Rattle.frames.proofs.Steps.{next}
-use Rattle.bus.specs.Fields.{if_then_else_}
+use Rattle.laws.specs.Choice.{if_then_else_}
 use Rattle.chip.specs.Chip.{withRegs, begun, arrives, stores, agreed, held, shows}
 use Rattle.chip.specs.declared.Chip.{Chip}
 use Rattle.chip.proofs.Shows.{length-held}

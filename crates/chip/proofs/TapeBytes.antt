@@ -13,7 +13,7 @@ use Rattle.refusals.specs.Refusal.{Refusal, Answer, value, refused, answering}
 use Rattle.frames.specs.Frames.{right, dataOf}
 use Rattle.frames.specs.Put.{put}
 use Rattle.frames.proofs.Frames.{bytes-writeFrame}
-use Rattle.bus.specs.Fields.{if_then_else_}
+use Rattle.laws.specs.Choice.{if_then_else_}
 use Rattle.bus.specs.Transfers.{Transfer, Outcome, done, fault, stopped, tapeField}
 use Rattle.bus.specs.Programs.{Prog, ret, ask, bind, proceed, _orLeave_, _>>=_}
 use Rattle.bus.specs.Raw.{Done, Read, gives, refuses, sound, plainly, received, whereRight, checkedly, plainRead, askFrame, checkedRead}

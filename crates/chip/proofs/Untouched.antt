@@ -12,7 +12,7 @@ use lib.Seq.{getD-set-other}
 use lib.Dec.{eqb}
 use Rattle.check_byte.specs.CheckByte.{checkByte}
 use Rattle.frames.specs.Frames.{writeByte, writeFrame}
-use Rattle.bus.specs.Fields.{if_then_else_}
+use Rattle.laws.specs.Choice.{if_then_else_}
 use Rattle.bus.specs.Transfers.{Transfer, write, read, fault}
 use Rattle.bus.specs.Programs.{Prog}
 use Rattle.bus.specs.Raw.{readBytes, writeRaw}

@@ -10,7 +10,7 @@ use lib.ListN.{length, take, replicate, length-replicate}
 use Rattle.refusals.specs.Refusal.{Refusal, Answer, value, refused, answering}
 use Rattle.frames.specs.Frames.{right, readFrame}
 use Rattle.frames.specs.Put.{put}
-use Rattle.bus.specs.Fields.{if_then_else_}
+use Rattle.laws.specs.Choice.{if_then_else_}
 use Rattle.bus.specs.Transfers.{fault}
 use Rattle.bus.specs.Programs.{Prog, ret, _orLeave_, _>>=_}
 use Rattle.bus.specs.Raw.{Done, Read, sound, gives, refuses, plainly, whereRight, checkedly, readRaw, readBytes, writeRaw}

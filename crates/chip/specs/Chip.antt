@@ -9,7 +9,7 @@ use lib.Bits.{bitAnd}
 use lib.Dec.{eqb, leb}
 use Rattle.check_byte.specs.CheckByte.{checkByte}
 use Rattle.frames.specs.Frames.{writeByte, readFrame}
-use Rattle.bus.specs.Fields.{if_then_else_}
+use Rattle.laws.specs.Choice.{if_then_else_}
 use Rattle.bus.specs.Transfers.{Transfer, write, read, Outcome, done, fault, stopped}
 use Rattle.chip.specs.Devices.{Reached, reached}
 use Rattle.chip.specs.declared.Chip.{Chip}

@@ -11,8 +11,8 @@ use Rattle.bus.specs.Transfers.{Bus}
 use Rattle.bus.specs.Programs.{Prog, Ran, ran, onTape}
 use Rattle.bus.specs.declared.Cursor.{Cursor}
 use Rattle.commands.specs.Answers.{asByte, asStat, asFlag, asSource}
-use Rattle.commands.specs.declared.bits.ByteAnswer.{ByteAnswer}
-use Rattle.commands.specs.declared.bits.ByteAnswer.the-variants as B
+use Rattle.commands.specs.declared.register.ByteAnswer.{ByteAnswer}
+use Rattle.commands.specs.declared.register.ByteAnswer.the-variants as B
 use Rattle.commands.specs.declared.status.StatAnswer.{StatAnswer}
 use Rattle.commands.specs.declared.status.StatAnswer.the-variants as S
 use Rattle.commands.specs.declared.switches.FlagAnswer.{FlagAnswer}

@@ -7,7 +7,7 @@ use mathlib.Core.List.{List}
 use Prim.Native.Nat.{ℕ}
 use lib.ListN.{getD, replicate}
 use Rattle.refusals.specs.Refusal.{Refusal, Answer, value, refused, answering, nine}
-use Rattle.bus.specs.Fields.{if_then_else_}
+use Rattle.laws.specs.Choice.{if_then_else_}
 use Rattle.bus.specs.Transfers.{Bus}
 use Rattle.bus.specs.Programs.{Prog, ret, Ran, onTape, bind, proceed, _orLeave_, _>>=_}
 use Rattle.bus.specs.Raw.{Done, Read, gives, refuses, readBytes}
@@ -16,7 +16,7 @@ use Rattle.bus.proofs.Programs.{onTape-bind, went-on, went-off}
 use Rattle.bq769x0.specs.Record.{isSound}
 use Rattle.bq769x0.specs.Registers.{soundly, readRaw}
 use Rattle.bq769x0.specs.declared.BQ769x0.{BQ769x0}
-use Rattle.commands.specs.Bits.{readRegister}
+use Rattle.commands.specs.Registers.{readRegister}
 
 module _ (d : BQ769x0) where
   -- a command: 9 on a record that is not sound

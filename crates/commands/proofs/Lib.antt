@@ -1,6 +1,5 @@
 pub mod Agree
 pub mod First
-pub mod Holds
-pub mod Register
+pub mod OneRegister
 pub mod Source
 pub mod Unwritten

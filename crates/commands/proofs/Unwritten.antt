@@ -2,9 +2,8 @@
 -- left them.
 -- Assumes nothing.
 use mathlib.Core.Path.{_≡_, refl, _∙_}
-use mathlib.Core.Bool.{Bool, true, false, not}
+use mathlib.Core.Bool.{Bool, not}
 use mathlib.Core.List.{[], _∷_}
-use mathlib.Core.Option.{none, some}
 use Prim.Native.Nat.{ℕ}
 use Rattle.refusals.specs.Refusal.{value, refused, nine}
 use Rattle.bus.specs.Transfers.{Bus}
@@ -12,18 +11,10 @@ use Rattle.bus.specs.Programs.{onTape}
 use Rattle.bus.specs.Raw.{writeRaw}
 use Rattle.bq769x0.specs.Registers.{soundly}
 use Rattle.bq769x0.specs.declared.BQ769x0.{BQ769x0}
-use Rattle.commands.specs.Bits.{holds, switched, switching, readRegister, writing, changing}
+use Rattle.bits.specs.Bits.{holds, switched, switching}
+use Rattle.bits.proofs.Switching.{stands-so, differs}
+use Rattle.commands.specs.Registers.{readRegister, writing, changing}
 use Rattle.commands.proofs.First.{first-on}
-
-stands : (mask byte : ℕ) (on : Bool) → holds mask byte ≡ on → switching mask on byte ≡ none
-unfolding switching
-stands mask byte true h = rw h
-stands mask byte false h = rw h
-
-differs : (mask byte : ℕ) (on : Bool) → holds mask byte ≡ not on → switching mask on byte ≡ some (switched mask on byte)
-unfolding switching
-differs mask byte true h = rw h
-differs mask byte false h = rw h
 
 -- by a read of 05 that gave a byte; mask 2 is `discharge`, mask 1 is `charge`
 module _ (d : BQ769x0) (mask byte : ℕ) (on : Bool) (b b′ : Bus)
@@ -33,7 +24,7 @@ module _ (d : BQ769x0) (mask byte : ℕ) (on : Bool) (b b′ : Bus)
       → onTape (soundly d (refused nine) (changing (d .link) 0x05 (switching mask on))) b
       ≡ record { answer = value tt; bus = b′ }
   unfolding changing writing onTape
-  unwritten h = first-on d (readRegister (d .link) 0x05) _ b e byte refl ∙ rw (stands mask byte on h)
+  unwritten h = first-on d (readRegister (d .link) 0x05) _ b e byte refl ∙ rw (stands-so mask byte on h)
 
   pub written : holds mask byte ≡ not on
       → onTape (soundly d (refused nine) (changing (d .link) 0x05 (switching mask on))) b

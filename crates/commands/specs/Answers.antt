@@ -4,8 +4,8 @@ use Prim.Native.Nat.{ℕ}
 use mathlib.Core.Bool.{Bool}
 use Rattle.refusals.specs.Refusal.{Answer, value, refused, asRefusal}
 use Rattle.units.specs.declared.flags.Stat.{Stat}
-use Rattle.commands.specs.declared.bits.ByteAnswer.{ByteAnswer}
-use Rattle.commands.specs.declared.bits.ByteAnswer.the-variants as B
+use Rattle.commands.specs.declared.register.ByteAnswer.{ByteAnswer}
+use Rattle.commands.specs.declared.register.ByteAnswer.the-variants as B
 use Rattle.commands.specs.declared.status.StatAnswer.{StatAnswer}
 use Rattle.commands.specs.declared.status.StatAnswer.the-variants as S
 use Rattle.commands.specs.declared.switches.FlagAnswer.{FlagAnswer}

@@ -4,15 +4,17 @@ use Prim.Native.Nat.{ℕ}
 use mathlib.Core.Bool.{Bool}
 use mathlib.Core.List.{[], _∷_}
 use Rattle.refusals.specs.Refusal.{Answer, refused, nine}
+use Rattle.units.specs.Flags.{bit}
 use Rattle.units.specs.declared.flags.Stat.{Stat}
 use Rattle.units.specs.declared.flags.SysStat.{SysStat}
-use Rattle.bus.specs.Fields.{if_then_else_}
+use Rattle.laws.specs.Choice.{if_then_else_}
 use Rattle.bus.specs.Programs.{Prog, ret, _orLeave_, _>>=_}
 use Rattle.bus.specs.Raw.{Done, refuses}
 use Rattle.bus.specs.Raw as link
 use Rattle.bq769x0.specs.Registers.{soundly, writeRaw}
 use Rattle.bq769x0.specs.declared.BQ769x0.{BQ769x0}
-use Rattle.commands.specs.Bits.{holds, cleared, placed, putting, switching, readRegister, readAs, changing}
+use Rattle.bits.specs.Bits.{placed, putting, switching, thermistor, holds}
+use Rattle.commands.specs.Registers.{readRegister, readAs, changing}
 use Rattle.commands.specs.declared.control.TemperatureSource.{TemperatureSource}
 use Rattle.commands.specs.declared.control.TemperatureSource.the-variants as T
 use Rattle.commands.specs.declared.counter.CoulombCounterMode.{CoulombCounterMode}
@@ -35,7 +37,7 @@ sysStat d = soundly d (refused nine) (readAs statOf (d .link) 0x00)
 -- 18 for bit 6, which is no flag
 abbrev pub sysStatReset : BQ769x0 → SysStat → Prog (Answer Done)
 sysStatReset d flags = soundly d (refused nine) (
-    if holds 0b0100_0000 (flags .bits) then ret (refuses 18)
+    if bit 6 (flags .bits) then ret (refuses 18)
     else link.writeRaw (d .link) 0x00 (flags .bits ∷ []))
 
 -- ---- switches: 05, bit 1 discharging, bit 0 charging
@@ -70,7 +72,7 @@ setTemperatureSource d source =
 
 -- the bit is cleared, and then tested
 abbrev pub sourceIn : ℕ → TemperatureSource
-sourceIn byte = if holds 0b0000_1000 (cleared 0b0000_1000 byte) then T.ExternalThermistor else T.InternalDie
+sourceIn byte = if thermistor byte then T.ExternalThermistor else T.InternalDie
 
 abbrev pub temperatureSource : BQ769x0 → Prog (Answer TemperatureSource)
 temperatureSource d = soundly d (refused nine) (readAs sourceIn (d .link) 0x04)

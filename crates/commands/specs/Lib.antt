@@ -1,3 +1,3 @@
-pub mod Bits
+pub mod Registers
 pub mod Answers
 pub mod Commands

@@ -3,8 +3,8 @@ ghost use Rattle.bus.specs.Lent.{does};
 ghost use Rattle.bus.specs.Raw.{asRaw};
 ghost use Rattle.commands.specs.Answers.{asByte};
 ghost use Rattle.commands.specs.Commands.{enableBalancing, balancingState};
-use crate::bits;
-use crate::bits::ByteRead;
+use crate::register;
+use crate::register::ByteRead;
 use bq769x0::BQ769x0;
 use bus::Cursor;
 use bus::raw::Raw;
@@ -19,5 +19,5 @@ pub fn enable_balancing(device: BQ769x0, cells: u8, tape: &[u8], log: &mut [u8],
 pub fn balancing_state(device: BQ769x0, tape: &[u8], log: &mut [u8], at: Cursor) -> ByteRead
     ensures { λ r. ⌜ does (balancingState device) tape log at (asByte (r .answer)) (r .at) ⌝ }
 {
-    bits::read_register(device, 0x01, tape, log, at)
+    register::read_register(device, 0x01, tape, log, at)
 }

@@ -3,11 +3,10 @@ ghost use mathlib.Core.Path.{_≡_};
 ghost use Rattle.bus.specs.Lent.{does};
 ghost use Rattle.bus.specs.Raw.{asRaw};
 ghost use Rattle.commands.specs.Answers.{asSource};
-ghost use Rattle.commands.specs.Bits.{placed};
 ghost use Rattle.commands.specs.Commands.{enableAdc, sourceBits, setTemperatureSource};
 ghost use Rattle.commands.specs.Commands.{sourceIn, temperatureSource};
-use crate::bits;
-use crate::bits::ByteAnswer;
+use crate::register;
+use crate::register::ByteAnswer;
 use bq769x0::BQ769x0;
 use bus::Cursor;
 use bus::raw::Raw;
@@ -32,7 +31,7 @@ pub fn enable_adc(device: BQ769x0, enable: bool, tape: &[u8], log: &mut [u8], at
     ensures { λ r. ⌜ does (enableAdc device enable) tape log at (asRaw (r .answer)) (r .at) ⌝ }
 {
     let set = bits::placed(0b0001_0000, enable);
-    bits::change_bits(device, 0x04, 0b0001_0000, set, tape, log, at)
+    register::change_bits(device, 0x04, 0b0001_0000, set, tape, log, at)
 }
 
 pub fn set_temperature_source(
@@ -45,7 +44,7 @@ pub fn set_temperature_source(
     ensures { λ r. ⌜ does (setTemperatureSource device source) tape log at (asRaw (r .answer)) (r .at) ⌝ }
 {
     let set = source_bits(source);
-    bits::change_bits(device, 0x04, 0b0000_1000, set, tape, log, at)
+    register::change_bits(device, 0x04, 0b0000_1000, set, tape, log, at)
 }
 
 fn source_bits(source: TemperatureSource) -> u8
@@ -60,7 +59,7 @@ fn source_bits(source: TemperatureSource) -> u8
 pub fn temperature_source(device: BQ769x0, tape: &[u8], log: &mut [u8], at: Cursor) -> SourceRead
     ensures { λ r. ⌜ does (temperatureSource device) tape log at (asSource (r .answer)) (r .at) ⌝ }
 {
-    let read = bits::read_register(device, 0x04, tape, log, at);
+    let read = register::read_register(device, 0x04, tape, log, at);
     let answer = read.answer;
     let next = read.at;
     match answer {
@@ -75,12 +74,10 @@ pub fn temperature_source(device: BQ769x0, tape: &[u8], log: &mut [u8], at: Curs
     }
 }
 
-// The bit is cleared before it is tested, as in the Rust.
 fn source_in(byte: u8) -> TemperatureSource
     ensures { λ r. ⌜ r ≡ sourceIn byte ⌝ }
 {
-    let cleared = byte & 0b1111_0111;
-    if bits::holds(0b0000_1000, cleared) {
+    if bits::thermistor(byte) {
         TemperatureSource::ExternalThermistor
     } else {
         TemperatureSource::InternalDie

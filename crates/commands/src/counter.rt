@@ -3,7 +3,7 @@ ghost use mathlib.Core.Path.{_≡_};
 ghost use Rattle.bus.specs.Lent.{does};
 ghost use Rattle.bus.specs.Raw.{asRaw};
 ghost use Rattle.commands.specs.Commands.{modeBits, coulombCounterMode};
-use crate::bits;
+use crate::register;
 use bq769x0::BQ769x0;
 use bus::Cursor;
 use bus::raw::Raw;
@@ -24,7 +24,7 @@ pub fn coulomb_counter_mode(
     ensures { λ r. ⌜ does (coulombCounterMode device mode) tape log at (asRaw (r .answer)) (r .at) ⌝ }
 {
     let set = mode_bits(mode);
-    bits::change_bits(device, BQ769x0::SYS_CTRL2, 0b0110_0000, set, tape, log, at)
+    register::change_bits(device, BQ769x0::SYS_CTRL2, 0b0110_0000, set, tape, log, at)
 }
 
 fn mode_bits(mode: CoulombCounterMode) -> u8

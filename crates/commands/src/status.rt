@@ -3,8 +3,8 @@ ghost use Rattle.bus.specs.Lent.{does};
 ghost use Rattle.bus.specs.Raw.{asRaw};
 ghost use Rattle.commands.specs.Answers.{asStat};
 ghost use Rattle.commands.specs.Commands.{sysStat, sysStatReset};
-use crate::bits;
-use crate::bits::ByteAnswer;
+use crate::register;
+use crate::register::ByteAnswer;
 use bq769x0::BQ769x0;
 use bus::Cursor;
 use bus::raw::Raw;
@@ -26,7 +26,7 @@ pub struct StatRead {
 pub fn sys_stat(device: BQ769x0, tape: &[u8], log: &mut [u8], at: Cursor) -> StatRead
     ensures { λ r. ⌜ does (sysStat device) tape log at (asStat (r .answer)) (r .at) ⌝ }
 {
-    let read = bits::read_register(device, 0x00, tape, log, at);
+    let read = register::read_register(device, 0x00, tape, log, at);
     let answer = read.answer;
     let next = read.at;
     match answer {
@@ -57,14 +57,13 @@ pub fn sys_stat_reset(
             at,
         };
     }
-    let byte = flags.bits;
-    if bits::holds(0b0100_0000, byte) {
+    if flags.has_reserved() {
         return Raw {
             answer: RawAnswer::Refused(Error::UnknownFlags),
             at,
         };
     }
-    let reset = [byte];
+    let reset = [flags.bits];
     let link = device.link;
-    link.write_raw(0x00, &reset, tape, log, at)
+    raw::write_raw(link, 0x00, &reset, tape, log, at)
 }

@@ -1,14 +1,14 @@
 // The switches for discharging and charging, bits 1 and 0 of register 05.
-ghost use mathlib.Core.Path.{_≡_};
 ghost use Rattle.refusals.specs.Refusal.{refused, nine};
 ghost use Rattle.bus.specs.Lent.{does};
 ghost use Rattle.bus.specs.Raw.{asRaw};
 ghost use Rattle.bq769x0.specs.Registers.{soundly};
 ghost use Rattle.commands.specs.Answers.{asFlag};
-ghost use Rattle.commands.specs.Bits.{switched, switching, changing};
+ghost use Rattle.bits.specs.Bits.{switching};
+ghost use Rattle.commands.specs.Registers.{changing};
 ghost use Rattle.commands.specs.Commands.{discharge, charge, isChargeEnabled};
-use crate::bits;
-use crate::bits::ByteAnswer;
+use crate::register;
+use crate::register::ByteAnswer;
 use bq769x0::BQ769x0;
 use bus::Cursor;
 use bus::raw::Raw;
@@ -40,7 +40,7 @@ pub fn charge(device: BQ769x0, enable: bool, tape: &[u8], log: &mut [u8], at: Cu
 pub fn is_charge_enabled(device: BQ769x0, tape: &[u8], log: &mut [u8], at: Cursor) -> FlagRead
     ensures { λ r. ⌜ does (isChargeEnabled device) tape log at (asFlag (r .answer)) (r .at) ⌝ }
 {
-    let read = bits::read_register(device, BQ769x0::SYS_CTRL2, tape, log, at);
+    let read = register::read_register(device, BQ769x0::SYS_CTRL2, tape, log, at);
     let answer = read.answer;
     let next = read.at;
     match answer {
@@ -75,16 +75,10 @@ fn switch_bit(
         return Raw { answer, at: next };
     };
     let byte = sys_ctrl2[0];
-    if enable == bits::holds(mask, byte) {
+    if bits::stands(mask, enable, byte) {
         return Raw { answer, at: next };
     }
-    let changed = [switched(mask, enable, byte)];
+    let changed = [bits::switched(mask, enable, byte)];
     let link = device.link;
-    link.write_raw(BQ769x0::SYS_CTRL2, &changed, tape, log, next)
-}
-
-fn switched(mask: u8, enable: bool, byte: u8) -> u8
-    ensures { λ r. ⌜ r ≡ switched mask enable byte ⌝ }
-{
-    if enable { byte | mask } else { byte & !mask }
+    raw::write_raw(link, BQ769x0::SYS_CTRL2, &changed, tape, log, next)
 }

@@ -2,10 +2,10 @@
 // out by a fault at the tape's end: the transfer that the fault met is the last in the log. The chip's answer then takes the fault's place.
 use crate::tape::Tape;
 use bq769x0::BQ769x0;
-use bq769x0::init::Init;
 use bus::Cursor;
 use chip::Chip;
 use plan::Config;
+use setup::left::Init;
 
 // No init makes more transfers.
 pub const MOST: usize = 8;
@@ -151,7 +151,7 @@ impl Bench {
 fn set_up(tape: Tape, device: BQ769x0, config: Config, log: &mut [u8; 256]) -> Init {
     let bytes = tape.bytes;
     let at = Cursor { tape: 0, log: 0 };
-    device.init(config, &bytes, log, at)
+    setup::init(device, config, &bytes, log, at)
 }
 
 pub fn run(start: Start, cut: Cut) -> Outcome {

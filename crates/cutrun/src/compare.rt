@@ -1,11 +1,11 @@
 // Whether two inits answered the same and left the same record and the same registers.
 use crate::bench::Outcome;
 use bq769x0::BQ769x0;
-use bq769x0::init::Init;
 use bus::raw::Link;
 use chip::Chip;
 use plan::InitAnswer;
 use plan::answer::InitNumbers;
+use setup::left::Init;
 use units::MilliVolts;
 
 fn same_numbers(a: InitNumbers, b: InitNumbers) -> bool {

@@ -8,9 +8,9 @@ use mathlib.Core.List.{List}
 use Rattle.bus.specs.Transfers.{Bus}
 use Rattle.bus.specs.Programs.{Prog, Ran, ran, onTape}
 use Rattle.plan.specs.Plan.{asInit}
-use Rattle.bq769x0.specs.declared.init.Init.{Init}
+use Rattle.setup.specs.declared.left.Init.{Init}
 use Rattle.plan.proofs.Agree.{answer-agree}
-use Rattle.firmware.specs.Layout.{Handed, handed}
+use Rattle.firmware.specs.Handed.{Handed, handed}
 use Rattle.firmware.specs.JobCells.{Listed, listed, HandedList}
 use Rattle.firmware.specs.JobWired.{Beside, beside, HandedBoth, handedBoth}
 use Rattle.firmware.specs.CellOn.{Found, found}

@@ -1,7 +1,3 @@
 pub mod Agree
-mod CellBytes
-pub mod Example
-mod Laid
 pub mod Ranged
 mod Reading
-mod Stages

@@ -16,24 +16,26 @@ use Rattle.plan.specs.declared.Config.{Config}
 use Rattle.plan.proofs.Never20.{in-a-range}
 use Rattle.job.specs.Jobs.{numberAt}
 use Rattle.numbers.specs.Numbers.{eight, four}
-use Rattle.bus.specs.Fields.{if_then_else_}
+use Rattle.laws.specs.Choice.{if_then_else_}
 use Rattle.bus.specs.Transfers.{Bus}
 use Rattle.bus.specs.Programs.{Prog, ret, onTape}
 use Rattle.bus.specs.Raw.{Done}
 use Rattle.bus.specs.declared.Cursor.{Cursor}
 use Rattle.bq769x0.specs.Record.{Left, leaving, accepts, isSound}
 use Rattle.bq769x0.specs.Registers.{soundly}
-use Rattle.bq769x0.specs.Calibrate.{calibrate}
-use Rattle.bq769x0.specs.Init.{onward, onwardBy, startCounter, protect, initBy}
+use Rattle.procedure.specs.Calibrate.{calibrate}
+use Rattle.procedure.specs.Init.{onward, onwardBy, startCounter, protect, initBy}
 use Rattle.bq769x0.specs.declared.BQ769x0.{BQ769x0}
-use Rattle.bq769x0.proofs.Always.{always, on-tape, always-after, always-bind, always-call, always-pure}
-use Rattle.measuring.specs.Cells.{cellVoltages}
-use Rattle.measuring.specs.Wired.{wired}
-use Rattle.firmware.specs.JobInit.{noDevice, jobInit}
-use Rattle.firmware.specs.JobCells.{Listed, unlisted, cellOf, storing, readCells, onlyReady, jobCells, asList}
+use Rattle.bus.proofs.Always.{always, on-tape, always-after, always-bind, always-call, always-pure}
+use Rattle.procedure.specs.Cells.{cellVoltages}
+use Rattle.procedure.specs.Wired.{wired}
+use Rattle.job_setup.specs.JobInit.{noDevice, jobInit}
+use Rattle.layout.specs.Cells.{cellOf}
+use Rattle.firmware.specs.JobCells.{Listed, unlisted, storing, readCells, onlyReady, jobCells, asList}
 use Rattle.firmware.specs.JobWired as by-wiring
 use Rattle.firmware.specs.JobWired.{Beside, readWired, jobWired, asBoth}
-use Rattle.firmware.specs.Layout.{laid, layout, asC}
+use Rattle.layout.specs.Layout.{laid}
+use Rattle.firmware.specs.Handed.{layout, asC}
 
 abbrev Ranged : Answer Values → Type 0
 Ranged (value v) = rangeNumber (v .range) < 2

@@ -1,13 +1,11 @@
 -- A cell reading after an init, by either list, where init's outcome, the room and the reading's outcome are known.
 -- Assumes nothing.
 use mathlib.Core.Path.{_≡_, refl, sym, ap, subst⁻¹, _∙_}
-use mathlib.Core.Bool.{true, false, and-eq-true-iff}
+use mathlib.Core.Bool.{true, false}
 use mathlib.Core.List.{List, [], map, map-id, map-map}
-use Prim.Native.Nat.{ℕ, _*_, _≤_}
-use lib.Dec.{leb}
+use Prim.Native.Nat.{ℕ, _≤_}
 use lib.ListN.{length, take, drop, replicate, length-map}
 use lib.Seq.{take-at, length-take-le}
-use borrow.Author.Tests.{leb-true}
 use Rattle.refusals.specs.Refusal.{Refusal, Answer, value, refused, no}
 use Rattle.units.specs.declared.MilliVolts.{MilliVolts}
 use Rattle.frames.specs.Put.{put}
@@ -18,20 +16,16 @@ use Rattle.bus.specs.Programs.{Prog, ret, Ran, ran, onTape, bind, _orLeave_, _>
 use Rattle.bus.proofs.Programs.{onTape-bind, pure-on, pure-off}
 use Rattle.bq769x0.specs.Record.{Left, leaves}
 use Rattle.bq769x0.specs.declared.BQ769x0.{BQ769x0}
-use Rattle.bq769x0.specs.declared.init.Init.{Init}
-use Rattle.measuring.specs.Inputs.{_over_}
-use Rattle.measuring.specs.Cells.{filled, volts, firstCells, cellVoltages}
-use Rattle.measuring.specs.declared.cells.Cells.{Cells}
-use Rattle.measuring.proofs.Lists.{map-take}
-use Rattle.measuring.proofs.Shows.{Shows, cells-shown}
-use Rattle.firmware.specs.JobInit.{jobInit}
-use Rattle.firmware.specs.JobCells.{listed, cellOf, cellBytes, hasRoom, roomFor, storing}
-
--- ---- the room
-pub has-room-is : (n bytes : ℕ) → hasRoom n bytes ≡ true → (4 * n ≤ bytes) × (n ≤ 15)
-has-room-is n bytes e =
-    let h = and-eq-true-iff (leb (4 * n) bytes) (leb n 15) .0 e in
-    (leb-true (4 * n) bytes (h .0), leb-true n 15 (h .1))
+use Rattle.setup.specs.declared.left.Init.{Init}
+use Rattle.laws.specs.Over.{_over_}
+use Rattle.moves.specs.Moves.{volts, firstCells}
+use Rattle.procedure.specs.Cells.{filled, cellVoltages}
+use Rattle.cells.specs.declared.Cells.{Cells}
+use Rattle.laws.proofs.Lists.{map-take}
+use Rattle.procedure.proofs.Shows.{Shows, cells-shown}
+use Rattle.job_setup.specs.JobInit.{jobInit}
+use Rattle.layout.specs.Cells.{cellOf, cellBytes, hasRoom}
+use Rattle.firmware.specs.JobCells.{listed, roomFor, storing}
 
 -- ---- a program whose outcome is known, and the next
 bound : {A B : Type 0} (p : Prog A) (f : A → Prog B) (b : Bus) {a : A} {b′ : Bus}

@@ -1,22 +1,20 @@
 -- A job set up, and one cell reading after it, as a program. The caller's list is bytes: four a cell, high byte first.
 -- Assumes nothing.
-use Prim.Native.Nat.{ℕ, _*_}
-use mathlib.Core.Bool.{Bool, not, _&&_}
-use mathlib.Core.List.{List, [], _∷_, _++_}
-use lib.Dec.{leb}
-use lib.ListN.{length, replicate, take}
+use Prim.Native.Nat.{ℕ}
+use mathlib.Core.Bool.{not}
+use mathlib.Core.List.{List}
+use lib.ListN.{length, replicate}
 use Rattle.refusals.specs.Refusal.{Refusal, Answer, value, refused, refusedIf}
 use Rattle.units.specs.declared.MilliVolts.{MilliVolts}
-use Rattle.frames.specs.Put.{put}
 use Rattle.plan.specs.Plan.{Values}
-use Rattle.numbers.specs.Numbers.{four}
 use Rattle.bus.specs.Programs.{Prog, ret, Ran, bind, _orLeave_, _>>=_}
 use Rattle.bus.specs.Raw.{Done}
 use Rattle.bq769x0.specs.Record.{Left, leaves}
 use Rattle.bq769x0.specs.declared.BQ769x0.{BQ769x0}
-use Rattle.measuring.specs.Cells.{Filled, cellVoltages}
-use Rattle.firmware.specs.JobInit.{jobInit}
-use Rattle.firmware.specs.Layout.{Handed, asC}
+use Rattle.procedure.specs.Cells.{Filled, cellVoltages}
+use Rattle.job_setup.specs.JobInit.{jobInit}
+use Rattle.layout.specs.Cells.{stored, hasRoom}
+use Rattle.firmware.specs.Handed.{Handed, asC}
 
 -- an answer and the record then, and the caller's list
 pub record Listed : Type 0 where
@@ -29,21 +27,6 @@ listed a d list = record { left = leaves a d; list = list }
 -- a refusal leaves the list as it was
 abbrev pub unlisted : BQ769x0 → List ℕ → Refusal → Listed
 unlisted d list r = listed (refused r) d list
-
-abbrev pub cellOf : ℕ → MilliVolts
-cellOf n = record { 0 = n }
-
-abbrev pub cellBytes : List MilliVolts → List ℕ
-cellBytes [] = []
-cellBytes (cell ∷ cells) = four (cell .0) ++ cellBytes cells
-
--- the first n cells, at the list's start
-abbrev pub stored : ℕ → List MilliVolts → List ℕ → List ℕ
-stored n cells list = put list 0 (cellBytes (take n cells))
-
--- four bytes a cell, and no device has more than 15
-abbrev pub hasRoom : ℕ → ℕ → Bool
-hasRoom n bytes = leb (4 * n) bytes && leb n 15
 
 -- 19
 abbrev pub roomFor : ℕ → List ℕ → Answer Done

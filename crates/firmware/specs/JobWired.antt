@@ -9,10 +9,11 @@ use Rattle.plan.specs.Plan.{Values}
 use Rattle.bus.specs.Programs.{Prog, ret, Ran, bind, _orLeave_, _>>=_}
 use Rattle.bq769x0.specs.Record.{Left}
 use Rattle.bq769x0.specs.declared.BQ769x0.{BQ769x0}
-use Rattle.measuring.specs.Wired.{Shown, wired}
-use Rattle.firmware.specs.JobInit.{jobInit}
-use Rattle.firmware.specs.Layout.{Handed}
-use Rattle.firmware.specs.JobCells.{Listed, listed, cellOf, roomFor, storing, HandedList, asList}
+use Rattle.procedure.specs.Wired.{Shown, wired}
+use Rattle.job_setup.specs.JobInit.{jobInit}
+use Rattle.firmware.specs.Handed.{Handed}
+use Rattle.layout.specs.Cells.{cellOf}
+use Rattle.firmware.specs.JobCells.{Listed, listed, roomFor, storing, HandedList, asList}
 
 -- an answer, the record and the list, and the inputs beside them
 pub record Beside : Type 0 where

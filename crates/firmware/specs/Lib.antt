@@ -1,5 +1,4 @@
-pub mod JobInit
-pub mod Layout
+pub mod Handed
 pub mod JobCells
 pub mod JobWired
 pub mod CellOn

@@ -4,60 +4,23 @@ ghost use Rattle.bus.specs.Transfers.{start};
 ghost use Rattle.bus.specs.Programs.{onTape};
 ghost use Rattle.bus.specs.Lent.{lentBus, does};
 ghost use Rattle.plan.specs.Plan.{asInit};
-ghost use Rattle.bq769x0.specs.Record.{leaves};
-ghost use Rattle.firmware.specs.JobInit.{jobInit};
-ghost use Rattle.firmware.specs.Layout.{handed, asC};
+ghost use Rattle.job_setup.specs.JobInit.{jobInit};
+ghost use Rattle.firmware.specs.Handed.{handed, asC};
 ghost use Rattle.firmware.specs.JobCells.{listed, jobCells, asList};
 ghost use Rattle.firmware.specs.JobWired.{beside, jobWired, handedBoth, asBoth};
 ghost use Rattle.firmware.specs.CellOn.{found, foundFor};
 ghost use Rattle.wiring.specs.Questions.{cellOn};
-use crate::cells::read_cells;
-use crate::layout::lay_out;
+use crate::crate_list::read_cells;
 use crate::wired::read_wired;
-use bq769x0::BQ769x0;
-use bq769x0::init::Init;
-use bq769x0::record::NewAnswer;
-use bus::Cursor;
-use job::JobAnswer;
+use layout::lay_out;
 use plan::InitAnswer;
+use setup::left::Init;
 use wiring::questions;
 use wiring::questions::CellAnswer;
 
-mod cells;
-mod layout;
+mod crate_list;
 mod list;
 mod wired;
-
-// 15, then 9, 10, 11, then the init; where no device was made, one of size 0 is left.
-pub fn init(job: &[u8], tape: &[u8], log: &mut [u8]) -> Init
-    ensures { λ r. ⌜ does (jobInit (now (job .entry))) tape log start
-        (leaves (asInit (r .answer)) (r .device)) (r .at) ⌝ }
-{
-    let at = Cursor { tape: 0, log: 0 };
-    let parsed = job::parse(job);
-    let JobAnswer::Wanted(wanted) = parsed else {
-        let none = BQ769x0::new(0, 0, 0, false);
-        let device = none.device;
-        return Init {
-            answer: InitAnswer::Refused(parsed.refusal()),
-            device,
-            at,
-        };
-    };
-    let asked = wanted.device;
-    let config = wanted.config;
-    let made = BQ769x0::new(asked.x, asked.address, asked.cells, asked.check);
-    let answer = made.answer;
-    let device = made.device;
-    let NewAnswer::Made = answer else {
-        return Init {
-            answer: InitAnswer::Refused(answer.refusal()),
-            device,
-            at,
-        };
-    };
-    device.init(config, tape, log, at)
-}
 
 // For C: the number, 0 where accepted, and the 36 bytes in out.
 #[no_mangle]
@@ -65,7 +28,7 @@ pub extern "C" fn bq769x0_init(job: &[u8], tape: &[u8], log: &mut [u8], out: &mu
     ensures { λ r. ⌜ handed r (now (out .exit)) (now (log .exit))
         ≡ asC (onTape (jobInit (now (job .entry))) (lentBus tape log start)) ⌝ }
 {
-    let done = init(job, tape, log);
+    let done = job_setup::init(job, tape, log);
     let answer = done.answer;
     let at = done.at;
     lay_out(out, at, answer.in_numbers());
@@ -77,7 +40,7 @@ pub fn init_cells(job: &[u8], tape: &[u8], log: &mut [u8], list: &mut [u8]) -> I
     ensures { λ r. ⌜ does (jobCells (now (job .entry)) (now (list .entry))) tape log start
         (listed (asInit (r .answer)) (r .device) (now (list .exit))) (r .at) ⌝ }
 {
-    let done = init(job, tape, log);
+    let done = job_setup::init(job, tape, log);
     let answer = done.answer;
     let device = done.device;
     let at = done.at;
@@ -117,7 +80,7 @@ pub fn init_wired(
     ensures { λ r. ⌜ does (jobWired (now (job .entry)) (now (inputs .entry)) (now (list .entry))) tape log start
         (beside (asInit (r .answer)) (r .device) (now (inputs .exit)) (now (list .exit))) (r .at) ⌝ }
 {
-    let done = init(job, tape, log);
+    let done = job_setup::init(job, tape, log);
     let answer = done.answer;
     let device = done.device;
     let at = done.at;

@@ -2,15 +2,15 @@
 ghost use Rattle.bus.specs.Lent.{does};
 ghost use Rattle.plan.specs.Plan.{asInit, asValues};
 ghost use Rattle.firmware.specs.JobWired.{beside, readWired};
-use crate::list::has_room;
 use crate::list::store_read;
 use bq769x0::BQ769x0;
-use bq769x0::init::Init;
 use bus::Cursor;
-use measuring::wired;
+use cells::wired;
+use layout::list::has_room;
 use plan::CalculatedValues;
 use plan::InitAnswer;
 use refusals::Error;
+use setup::left::Init;
 
 // The reading of a device that was set up with these values, which are then the answer;
 // a refusal leaves both lists as they were.
@@ -26,7 +26,7 @@ pub(crate) fn read_wired(
     ensures { λ r. ⌜ does (readWired (now (inputs .entry)) (now (list .entry)) (asValues values) device) tape log at
         (beside (asInit (r .answer)) (r .device) (now (inputs .exit)) (now (list .exit))) (r .at) ⌝ }
 {
-    let n = device.cell_count as usize;
+    let n = device.cell_count;
     if !has_room(n, list.len()) {
         return Init {
             answer: InitAnswer::Refused(Error::NoRoom),

@@ -11,12 +11,12 @@ use Rattle.bus.specs.Raw.{asRaw}
 use Rattle.bus.specs.declared.raw.Raw.{Raw}
 use Rattle.bq769x0.specs.Record.{Left, leaves}
 use Rattle.bq769x0.specs.declared.BQ769x0.{BQ769x0}
-use Rattle.bq769x0.specs.declared.init.Init.{Init}
-use Rattle.bq769x0.proofs.Agree as by-value
-use Rattle.measuring.specs.Cells.{Filled, filled}
-use Rattle.measuring.specs.Wired.{Shown, shown}
-use Rattle.measuring.specs.declared.cells.Cells.{Cells}
-use Rattle.measuring.proofs.Agree as measured
+use Rattle.setup.specs.declared.left.Init.{Init}
+use Rattle.setup.proofs.Agree as by-value
+use Rattle.procedure.specs.Cells.{Filled, filled}
+use Rattle.procedure.specs.Wired.{Shown, shown}
+use Rattle.cells.specs.declared.Cells.{Cells}
+use Rattle.cells.proofs.Agree as measured
 use Rattle.in_place.specs.declared.Answered.{Answered}
 
 -- what the function by value would have returned

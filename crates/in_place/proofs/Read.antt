@@ -10,9 +10,9 @@ use Rattle.bus.specs.declared.raw.Raw.{Raw}
 use Rattle.bus.proofs.raw.Raw as R
 use Rattle.bus.proofs.raw.Raw.Laws as R′
 use Rattle.bq769x0.proofs.BQ769x0 as B
-use Rattle.measuring.specs.declared.cells.Cells.{Cells}
-use Rattle.measuring.proofs.cells.Cells as O
-use Rattle.measuring.proofs.cells.Cells.Laws as O′
+use Rattle.cells.specs.declared.Cells.{Cells}
+use Rattle.cells.proofs.Cells as O
+use Rattle.cells.proofs.Cells.Laws as O′
 use Rattle.in_place.proofs.Steps.{vals}
 
 abbrev pub rest : Cells → Raw

@@ -5,14 +5,14 @@ ghost use Rattle.plan.specs.Plan.{asInit};
 ghost use Rattle.bus.specs.Lent.{does};
 ghost use Rattle.bus.specs.Raw.{asRaw};
 ghost use Rattle.bq769x0.specs.Record.{leaves};
-ghost use Rattle.bq769x0.specs.Init.{initBy};
-ghost use Rattle.measuring.specs.Cells.{filled, cellVoltages};
-ghost use Rattle.measuring.specs.Wired.{shown, wired};
+ghost use Rattle.procedure.specs.Init.{initBy};
+ghost use Rattle.procedure.specs.Cells.{filled, cellVoltages};
+ghost use Rattle.procedure.specs.Wired.{shown, wired};
 use bq769x0::BQ769x0;
 use bus::Cursor;
 use bus::raw::Raw;
-use measuring::cells;
-use measuring::wired;
+use cells::crate_list;
+use cells::wired;
 use plan::Config;
 use plan::InitAnswer;
 
@@ -33,7 +33,7 @@ pub fn init(
         (leaves (asInit (r .answer)) (now (device .exit))) (r .at) ⌝ }
 {
     let held = *device;
-    let left = held.init(config, tape, log, at);
+    let left = setup::init(held, config, tape, log, at);
     *device = left.device;
     Answered {
         answer: left.answer,
@@ -52,7 +52,7 @@ pub fn cell_voltages(
         (filled (asRaw (r .answer)) (now (device .exit)) (now (list .exit))) (r .at) ⌝ }
 {
     let held = *device;
-    let left = cells::cell_voltages(held, list, tape, log, at);
+    let left = crate_list::cell_voltages(held, list, tape, log, at);
     *device = left.device;
     Raw {
         answer: left.answer,

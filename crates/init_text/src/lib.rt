@@ -1,20 +1,24 @@
-// A job with its tape, set up by what C calls, and printed: the transfers made and the answer.
+// A job with its tape, set up and printed: the transfers made and the answer.
+use bus::Cursor;
+use setup::left::Init;
 
 pub fn print(input: &[u8]) {
     let mut log = [0u8; 256];
-    let mut out = [0u8; 36];
-    report(input, &mut log, &mut out);
+    report(input, &mut log);
 }
 
-fn report(input: &[u8], log: &mut [u8], out: &mut [u8; 36]) {
-    let refusal = set_up(input, log, out);
-    text::init(refusal, log, out);
+fn report(input: &[u8], log: &mut [u8]) {
+    let done = set_up(input, log);
+    let answer = done.answer;
+    let next = done.at;
+    lines::transfers(log, Cursor { tape: 0, log: 0 }, next);
+    lines::init(answer);
 }
 
 // The tape is what follows the job's two fields.
-fn set_up(input: &[u8], log: &mut [u8], out: &mut [u8; 36]) -> u8 {
+fn set_up(input: &[u8], log: &mut [u8]) -> Init {
     if input.len() < job::TAPE_AT {
-        return firmware::bq769x0_init(input, b"", log, out);
+        return job_setup::init(input, b"", log);
     }
-    firmware::bq769x0_init(input, &input[job::TAPE_AT..], log, out)
+    job_setup::init(input, &input[job::TAPE_AT..], log)
 }

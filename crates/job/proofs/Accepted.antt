@@ -15,7 +15,7 @@ use Rattle.laws.proofs.Tests.{below}
 use Rattle.numbers.specs.Numbers.{word, four}
 use Rattle.numbers.proofs.Bytes.{word4-four, four-word4}
 use Rattle.refusals.specs.Refusal.{value, refused, no}
-use Rattle.plan.proofs.Values.{refused-not, same-value}
+use Rattle.refusals.proofs.Values.{refused-not, same-value}
 use Rattle.job.specs.Jobs.{byteAt, numberAt, isDevice, codesAt, isJob, deviceOf, configOf, deviceFor, jobOf}
 use Rattle.job.specs.Encoding.{zeroOrOne, deviceValue, configValue, field, fieldsOf}
 use Rattle.job.specs.declared.Device.{Device}

@@ -1,1 +1,1 @@
-// Laws that the proofs of several layers cite. There is no code here: `proofs/` is the crate.
+// What the definitions and the proofs of several layers share. There is no code here: `specs/` and `proofs/` are the crate.

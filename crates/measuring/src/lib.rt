@@ -1,9 +1,5 @@
-// Measuring: the cells, the current, the pack's voltage and the temperature.
-pub mod cells;
+// Measuring: the current, the pack's voltage and the temperature.
 pub mod degrees;
-mod inputs;
-mod moves;
 pub mod pack;
 pub mod temperature;
-pub mod wired;
 mod word;

@@ -10,7 +10,7 @@ use Rattle.bus.specs.Raw.{readBytes}
 use Rattle.bq769x0.specs.Record.{isSound}
 use Rattle.bq769x0.specs.Registers.{soundly}
 use Rattle.bq769x0.specs.declared.BQ769x0.{BQ769x0}
-use Rattle.commands.specs.Bits.{readRegister, readAs}
+use Rattle.commands.specs.Registers.{readRegister, readAs}
 use Rattle.commands.specs.Commands.{sourceIn, temperatureSource}
 use Rattle.commands.specs.declared.control.TemperatureSource.{TemperatureSource}
 use Rattle.commands.specs.declared.control.TemperatureSource.the-variants as T

@@ -20,7 +20,7 @@ use Rattle.bus.specs.Raw.{Done, send, wrote, compared, verified, askBack, write
 use Rattle.bq769x0.specs.Record.{isSound}
 use Rattle.bq769x0.specs.Registers.{soundly}
 use Rattle.bq769x0.specs.declared.BQ769x0.{BQ769x0}
-use Rattle.commands.specs.Bits.{holds}
+use Rattle.units.specs.Flags.{bit}
 use Rattle.commands.specs.Commands.{sysStatReset}
 use Rattle.chip.specs.Devices.{Reached, reached, onDevice}
 use Rattle.chip.specs.Chip.{arrives, stores, held, respondCut}
@@ -37,7 +37,7 @@ StatusReset =
     (d : BQ769x0) (c : Chip) (flags : SysStat)
     → isSound d ≡ true
     → Matches (d .link) c
-    → holds 0b0100_0000 (flags .bits) ≡ false
+    → bit 6 (flags .bits) ≡ false
     → onChip (sysStatReset d flags) (uncut c)
     ≡ reached (resetAnswer (d .link .check) (getD (c .regs) 0 0) (flags .bits)) (uncut (flagsCleared (flags .bits) c))
 

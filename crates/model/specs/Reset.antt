@@ -6,7 +6,7 @@ use Prim.Native.Nat.{ℕ}
 use lib.Dec.{eqb}
 use lib.IntN.{pos}
 use Rattle.refusals.specs.Refusal.{no, Answer, value, refused}
-use Rattle.bus.specs.Fields.{if_then_else_}
+use Rattle.laws.specs.Choice.{if_then_else_}
 use Rattle.bus.specs.Raw.{Done}
 use Rattle.chip.specs.Chip.{withRegs, arrives}
 use Rattle.chip.specs.declared.Chip.{Chip}

@@ -20,7 +20,7 @@ use Rattle.plan.specs.Trips.{tripCodeFor}
 use Rattle.plan.specs.declared.Config.{Config}
 use Rattle.plan.specs.declared.six_bytes.Protect.{Protect}
 use Rattle.plan.proofs.After.{choice}
-use Rattle.plan.proofs.Values.{refused-not, same-value}
+use Rattle.refusals.proofs.Values.{refused-not, same-value}
 
 -- a chain of steps that has a value has one at its first step, and goes on from it
 pub first : {A B : Type 0} (a : Answer A) (next : A → Answer B) {b : B} → a >>= next ≡ value b → (x : A) × ((a ≡ value x) × (next x ≡ value b))

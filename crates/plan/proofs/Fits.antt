@@ -30,7 +30,7 @@ use Rattle.protection.proofs.delays.OVDelay as ov-delays
 use Rattle.protection.proofs.scd.SCDThreshold as scd-steps
 use Rattle.protection.proofs.ocd.OCDThreshold as ocd-steps
 use Rattle.plan.specs.Fields.{ofRange}
-use Rattle.plan.proofs.Values.{refused-not, same-value}
+use Rattle.refusals.proofs.Values.{refused-not, same-value}
 
 -- a test that each variant passes
 abbrev pub All : (enum : Record) → (enum .D → Bool) → Type 0

@@ -19,5 +19,4 @@ pub mod ReadBack
 pub mod Shunt
 pub mod Six
 pub mod TripPoints
-pub mod Values
 pub mod WithinNumbers

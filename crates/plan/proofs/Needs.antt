@@ -12,7 +12,7 @@ use Rattle.plan.specs.Steps.{badShunt, shuntFor}
 use Rattle.plan.specs.Trips.{ovLimits, uvLimits, obtainable, obtainableOr, tripCodeFor, withinFor}
 use Rattle.plan.specs.declared.Config.{Config}
 use Rattle.plan.proofs.Accepted.{first}
-use Rattle.plan.proofs.Values.{refused-not}
+use Rattle.refusals.proofs.Values.{refused-not}
 
 -- a test by which a value was not refused did not hold
 passed : {A : Type 0} (t : Bool) (n : ℕ) (y : Answer A) {a : A} → refusedIf t n y ≡ value a → t ≡ false

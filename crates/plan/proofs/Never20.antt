@@ -18,7 +18,7 @@ use Rattle.plan.specs.declared.Config.{Config}
 use Rattle.plan.proofs.Accepted.{accepted}
 use Rattle.plan.proofs.After.{choice, choice-only, only-not}
 use Rattle.plan.proofs.Only.{shunt-only, code-only}
-use Rattle.plan.proofs.Values.{same-value, refused-not}
+use Rattle.refusals.proofs.Values.{same-value, refused-not}
 use Rattle.plan.proofs.WithinNumbers.{within-other}
 
 given-not :

@@ -16,7 +16,7 @@ use Rattle.plan.specs.Registers.{protectFor}
 use Rattle.plan.specs.Steps.{badShunt, shuntFor}
 use Rattle.plan.specs.Trips.{tripCodeFor}
 use Rattle.plan.specs.declared.Config.{Config}
-use Rattle.plan.proofs.Values.{refused-not}
+use Rattle.refusals.proofs.Values.{refused-not}
 
 -- a refusal of a is the refusal n, without figures
 abbrev pub Only : {A : Type 0} → ℕ → Answer A → Type 0

@@ -14,7 +14,7 @@ use Rattle.protection.specs.declared.range.OCDSCDRange.{OCDSCDRange}
 use Rattle.protection.specs.declared.range.OCDSCDRange.the-variants as R
 use Rattle.plan.specs.Fields.{ofRange}
 use Rattle.plan.proofs.Fits.{All, by-range}
-use Rattle.plan.proofs.Values.{same-value, refused-not}
+use Rattle.refusals.proofs.Values.{same-value, refused-not}
 
 -- the range chosen has both steps
 abbrev HasBoth : Bool → Bool → Bool → Bool → OCDSCDRange → Type 0

@@ -14,7 +14,7 @@ use Rattle.plan.specs.Steps.{InMv}
 use Rattle.plan.specs.Plan.{Planned}
 use Rattle.plan.specs.declared.Config.{Config}
 use Rattle.bq769x0.specs.Record.{leaves, leaving, accepts, isSound, withCalibration, withShunt}
-use Rattle.bq769x0.specs.Init.{initBy}
+use Rattle.procedure.specs.Init.{initBy}
 use Rattle.bq769x0.specs.declared.BQ769x0.{BQ769x0}
 use Rattle.chip.specs.Devices.{reached}
 use Rattle.chip.specs.Chip.{withRegs}

@@ -13,16 +13,16 @@ use Rattle.plan.specs.Steps.{InMv}
 use Rattle.plan.specs.Plan.{Values}
 use Rattle.plan.specs.declared.Config.{Config}
 use Rattle.plan.proofs.Six.{plan-six}
-use Rattle.bus.specs.Fields.{if_then_else_}
+use Rattle.laws.specs.Choice.{if_then_else_}
 use Rattle.bus.specs.Programs.{Prog, ret, ask, bind, _orLeave_, _>>=_}
 use Rattle.bus.specs.Raw.{readBytes, writeRaw}
 use Rattle.bus.proofs.Decoders.{Short}
 use Rattle.bq769x0.specs.Record.{Left, leaving, isSound, withShunt}
 use Rattle.bq769x0.specs.Registers.{soundly}
-use Rattle.bq769x0.specs.Calibrate.{calibrate}
-use Rattle.bq769x0.specs.Init.{onward, onwardBy, startCounter, protect, initBy}
+use Rattle.procedure.specs.Calibrate.{calibrate}
+use Rattle.procedure.specs.Init.{onward, onwardBy, startCounter, protect, initBy}
 use Rattle.bq769x0.specs.declared.BQ769x0.{BQ769x0}
-use Rattle.bq769x0.proofs.Always.{always, always-call}
+use Rattle.bus.proofs.Always.{always, always-call}
 use Rattle.chip.specs.Devices.{onDevice, logOf}
 use Rattle.chip.specs.OnChip.{Wired, onWire, onChip}
 use Rattle.chip.proofs.Asks.{Asks, nothing, asks-bind, asks-call, asks-pure}

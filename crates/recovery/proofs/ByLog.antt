@@ -17,7 +17,7 @@ use Rattle.bus.specs.Transfers.{Transfer, Bus, busOf, moved}
 use Rattle.bus.specs.Programs.{Prog, Ran, ran}
 use Rattle.bus.specs.Decoders.{transfersIn}
 use Rattle.bq769x0.specs.Record.{Left, leaves}
-use Rattle.bq769x0.specs.Init.{initBy}
+use Rattle.procedure.specs.Init.{initBy}
 use Rattle.bq769x0.specs.declared.BQ769x0.{BQ769x0}
 use Rattle.chip.specs.Devices.{logOf, tapeOf}
 use Rattle.chip.specs.OnChip.{Wired, onWire, onChip, fed}

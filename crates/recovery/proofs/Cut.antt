@@ -14,14 +14,14 @@ use Rattle.frames.proofs.Put.{put-none}
 use Rattle.plan.specs.Steps.{InMv}
 use Rattle.plan.specs.Plan.{Values}
 use Rattle.plan.specs.declared.Config.{Config}
-use Rattle.bus.specs.Fields.{if_then_else_}
+use Rattle.laws.specs.Choice.{if_then_else_}
 use Rattle.bus.specs.Programs.{Prog, ret}
 use Rattle.bus.specs.Raw.{Done, sound, readBytes, writeRaw}
 use Rattle.bus.specs.declared.raw.Link.{Link}
 use Rattle.bq769x0.specs.Record.{Left, leaves, leaving, accepts, isSound, withCalibration}
 use Rattle.bq769x0.specs.Registers.{soundly}
-use Rattle.bq769x0.specs.Calibrate.{calibrated, calibrate}
-use Rattle.bq769x0.specs.Init.{onward, onwardBy, startCounter, protect, initBy}
+use Rattle.procedure.specs.Calibrate.{calibrated, calibrate}
+use Rattle.procedure.specs.Init.{onward, onwardBy, startCounter, protect, initBy}
 use Rattle.bq769x0.specs.declared.BQ769x0.{BQ769x0}
 use Rattle.bq769x0.proofs.Speaks.{link-sound, some-inputs}
 use Rattle.chip.specs.Devices.{Reached, onDevice}

@@ -14,9 +14,9 @@ use Rattle.plan.proofs.Agree.{answer-agree}
 use Rattle.bus.specs.Transfers.{Transfer, busOf}
 use Rattle.bus.specs.Programs.{Ran}
 use Rattle.bq769x0.specs.Record.{Left, isSound}
-use Rattle.bq769x0.specs.Init.{initBy}
+use Rattle.procedure.specs.Init.{initBy}
 use Rattle.bq769x0.specs.declared.BQ769x0.{BQ769x0}
-use Rattle.bq769x0.proofs.Keeps.{init-keeps}
+use Rattle.procedure.proofs.Keeps.{init-keeps}
 use Rattle.chip.specs.Devices.{Reached}
 use Rattle.chip.specs.OnChip.{Matches, Wired, uncut, onChip}
 use Rattle.chip.specs.declared.Chip.{Chip}

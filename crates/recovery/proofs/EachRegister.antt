@@ -13,7 +13,7 @@ use Rattle.refusals.specs.Refusal.{Answer}
 use Rattle.frames.proofs.Put.{getD-put, length-put}
 use Rattle.plan.specs.Steps.{InMv}
 use Rattle.plan.specs.declared.Config.{Config}
-use Rattle.bus.specs.Fields.{if_then_else_}
+use Rattle.laws.specs.Choice.{if_then_else_}
 use Rattle.bq769x0.specs.declared.BQ769x0.{BQ769x0}
 use Rattle.chip.specs.OnChip.{Matches}
 use Rattle.chip.specs.declared.Chip.{Chip}

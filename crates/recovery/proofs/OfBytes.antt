@@ -14,8 +14,8 @@ use Rattle.plan.proofs.Six.{plan-bytes}
 use Rattle.bus.specs.Raw.{Done}
 use Rattle.bq769x0.specs.Record.{Left, isSound, withShunt}
 use Rattle.bq769x0.specs.Registers.{soundly}
-use Rattle.bq769x0.specs.Calibrate.{calibrate}
-use Rattle.bq769x0.specs.Init.{onward, onwardBy, startCounter, protect, initBy}
+use Rattle.procedure.specs.Calibrate.{calibrate}
+use Rattle.procedure.specs.Init.{onward, onwardBy, startCounter, protect, initBy}
 use Rattle.bq769x0.specs.declared.BQ769x0.{BQ769x0}
 use Rattle.chip.specs.Devices.{tapeOf}
 use Rattle.chip.specs.OnChip.{Wired, onWire}

@@ -9,7 +9,7 @@ use Rattle.plan.specs.Plan.{Values, Planned, asInit}
 use Rattle.plan.specs.declared.Config.{Config}
 use Rattle.plan.proofs.Accepted.{first}
 use Rattle.bq769x0.specs.Record.{Left, isSound, withCalibration, withShunt}
-use Rattle.bq769x0.specs.Init.{initBy}
+use Rattle.procedure.specs.Init.{initBy}
 use Rattle.bq769x0.specs.declared.BQ769x0.{BQ769x0}
 use Rattle.chip.specs.Chip.{withRegs}
 use Rattle.chip.specs.Devices.{Reached}

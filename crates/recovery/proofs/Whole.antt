@@ -20,8 +20,8 @@ use Rattle.bus.specs.Raw.{Done, sound, readBytes, writeRaw}
 use Rattle.bus.specs.declared.raw.Link.{Link}
 use Rattle.bq769x0.specs.Record.{Left, leaves, leaving, isSound, withCalibration}
 use Rattle.bq769x0.specs.Registers.{soundly}
-use Rattle.bq769x0.specs.Calibrate.{calibrate}
-use Rattle.bq769x0.specs.Init.{onward, onwardBy, startCounter, protect, initBy}
+use Rattle.procedure.specs.Calibrate.{calibrate}
+use Rattle.procedure.specs.Init.{onward, onwardBy, startCounter, protect, initBy}
 use Rattle.bq769x0.specs.declared.BQ769x0.{BQ769x0}
 use Rattle.bq769x0.proofs.Speaks.{link-sound, some-inputs}
 use Rattle.chip.specs.Devices.{Reached, reached, onDevice}

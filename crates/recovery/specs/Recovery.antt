@@ -14,7 +14,7 @@ use Rattle.plan.specs.Order.{_>>=_}
 use Rattle.plan.specs.Steps.{InMv}
 use Rattle.plan.specs.Plan.{Planned, planFor}
 use Rattle.plan.specs.declared.Config.{Config}
-use Rattle.bus.specs.Fields.{if_then_else_}
+use Rattle.laws.specs.Choice.{if_then_else_}
 use Rattle.bq769x0.specs.Record.{accepts, withCalibration, withShunt}
 use Rattle.bq769x0.specs.declared.BQ769x0.{BQ769x0}
 use Rattle.chip.specs.Chip.{withRegs}

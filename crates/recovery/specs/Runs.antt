@@ -10,15 +10,15 @@ use Rattle.refusals.specs.Refusal.{Answer}
 use Rattle.plan.specs.Steps.{InMv}
 use Rattle.plan.specs.Plan.{asInit}
 use Rattle.plan.specs.declared.Config.{Config}
-use Rattle.bus.specs.Fields.{if_then_else_}
+use Rattle.laws.specs.Choice.{if_then_else_}
 use Rattle.bus.specs.Transfers.{Transfer, busOf}
 use Rattle.bus.specs.Programs.{onTape, ran}
 use Rattle.bus.specs.declared.Cursor.{Cursor}
 use Rattle.bus.specs.Decoders.{transfersIn}
 use Rattle.bq769x0.specs.Record.{leaves}
-use Rattle.bq769x0.specs.Init.{initBy}
+use Rattle.procedure.specs.Init.{initBy}
 use Rattle.bq769x0.specs.declared.BQ769x0.{BQ769x0}
-use Rattle.bq769x0.specs.declared.init.Init.{Init}
+use Rattle.setup.specs.declared.left.Init.{Init}
 use Rattle.chip.specs.Devices.{tapeOf}
 use Rattle.chip.specs.OnChip.{Wired, onWire, fed}
 use Rattle.chip.specs.declared.Chip.{Chip}

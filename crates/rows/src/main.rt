@@ -1,7 +1,7 @@
 // The rows of the scope's table, the check byte's published vectors, and lines of docs/DIFFERENCES.md: each is run, and printed with what it
 // should be.
 mod beyond;
-mod cells;
+mod lists;
 mod print;
 mod records;
 
@@ -184,8 +184,8 @@ fn main() {
     unobtainable();
     steps();
     current();
-    cells::ten();
-    cells::six();
+    lists::ten();
+    lists::six();
     check_bytes();
     beyond::functions();
     records::records();

@@ -7,7 +7,7 @@ use bq769x0::record::NewAnswer;
 use bus::Cursor;
 use bus::raw::Link;
 use bus::raw::RawAnswer;
-use measuring::cells;
+use cells::crate_list;
 use measuring::pack;
 use units::MicroOhms;
 
@@ -16,7 +16,7 @@ fn read_status(link: Link, log: &mut [u8]) -> u32 {
     let mut data = [0u8; 1];
     let tape = [0x01, 0x00, 0x01, 0x80];
     let at = Cursor { tape: 0, log: 0 };
-    let answer = link.read_raw(0x00, &mut data, &tape, log, at).answer;
+    let answer = raw::read_raw(link, 0x00, &mut data, &tape, log, at).answer;
     match answer {
         RawAnswer::Done => 0,
         RawAnswer::Refused(e) => e.number() as u32,
@@ -120,7 +120,7 @@ fn not_made() {
 
 // How many cells of five are handed back, or 16 for more than there are.
 fn handed(list: &mut [u32]) -> u32 {
-    let part = cells::cells_of(marked(1000), list);
+    let part = crate_list::cells_of(marked(1000), list);
     let n = part.len();
     if n < 16 { n as u32 } else { 16 }
 }

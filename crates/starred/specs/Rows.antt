@@ -12,7 +12,7 @@ use Rattle.protection.specs.declared.delays.UVDelay.the-variants as U
 use Rattle.protection.specs.declared.delays.OVDelay.the-variants as W
 use Rattle.adc.specs.Registers.{gainOf}
 use Rattle.adc.specs.Conversion.{millivolts, milliamperes}
-use Rattle.measuring.specs.Cells.{inputsOf}
+use Rattle.moves.specs.Moves.{inputsOf}
 use Rattle.check_byte.specs.CheckByte.{checkByte}
 use Rattle.plan.specs.Order.{_>>=_}
 use Rattle.plan.specs.Steps.{stepsFor}

@@ -47,6 +47,13 @@ impl SysStat {
             bits: self.bits | other.bits,
         }
     }
+
+    // Bit 6, which is no flag.
+    pub fn has_reserved(self) -> bool
+        ensures { λ r. ⌜ r ≡ bit 6 (self .bits) ⌝ }
+    {
+        self.bits / 0b0100_0000 % 2 == 1
+    }
 }
 
 // A flag of `Stat` is tested by the constant of `SysStat`, so that the promise holds the constant too.

@@ -2,7 +2,7 @@
 use denote.Ref.{now}
 use Rattle.bq769x0.specs.declared.BQ769x0.{BQ769x0}
 use Rattle.bus.specs.Programs.{Prog}
-use Rattle.measuring.specs.Wired.{Shown, wired}
+use Rattle.procedure.specs.Wired.{Shown, wired}
 use Rattle.bench.specs.Calls.{asShown}
 use Rattle.bench.proofs.OnRecord.{on-record}
 use borrow.Author.Needs.{needs}

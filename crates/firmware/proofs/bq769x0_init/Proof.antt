@@ -1,6 +1,6 @@
 -- `firmware::bq769x0_init` meets its contract. Assumes nothing.
 use mathlib.Core.Path.{ap}
-use Rattle.firmware.specs.Layout.{asC}
+use Rattle.firmware.specs.Handed.{asC}
 use borrow.Author.Needs.{needs}
 use Rattle.firmware.proofs.bq769x0_init.Statement.{statement}
 use Rattle.firmware.proofs.bq769x0_init.Tie as tie

@@ -49,16 +49,16 @@ use Rattle.bus.specs.declared.Cursor.{Cursor}
 use Rattle.bus.proofs.Cursor as P
 use Rattle.bus.proofs.Cursor.Laws as P′
 use Rattle.bq769x0.specs.Record.{leaves}
-use Rattle.bq769x0.specs.Init.{initBy}
+use Rattle.procedure.specs.Init.{initBy}
 use Rattle.bq769x0.specs.declared.BQ769x0.{BQ769x0}
-use Rattle.bq769x0.specs.declared.init.Init.{Init}
+use Rattle.setup.specs.declared.left.Init.{Init}
 use Rattle.bq769x0.proofs.BQ769x0 as B
-use Rattle.bq769x0.proofs.init.Init as O
-use Rattle.bq769x0.proofs.init.Init.Laws as O′
-use Rattle.bq769x0.proofs.BQ769x0.init as callee
-use Rattle.bq769x0.proofs.BQ769x0.init.Symbol as callee-def
-use Rattle.bq769x0.proofs.BQ769x0.init.Symbol.{name as #called}
-use Rattle.bq769x0.proofs.BQ769x0.init.Met as callee-thm
+use Rattle.setup.proofs.left.Init as O
+use Rattle.setup.proofs.left.Init.Laws as O′
+use Rattle.setup.proofs.init as callee
+use Rattle.setup.proofs.init.Symbol as callee-def
+use Rattle.setup.proofs.init.Symbol.{name as #called}
+use Rattle.setup.proofs.init.Met as callee-thm
 use Rattle.in_place.specs.declared.Answered.{Answered}
 use Rattle.in_place.proofs.Steps.{vals, seen, behind, slice, slice-fits, taped, lent-slice, parted, handed-back}
 use Rattle.in_place.proofs.Steps.{last-three, handed, tape-twice, last-of, none-of, answered-by, copied-out, lent-on}
@@ -198,5 +198,5 @@ init-spec 𝓤 H 𝓜 𝓖 𝓡 =
     (a .0 .ptr .0) (a .0 .ptr .1) (a .0 .name) (a .0 .now) (a .1 .0) (a .1 .1 .0) (a .1 .1 .1 .0) (a .1 .1 .1 .1 .0)
     (LL.val K.the-type K′.the-laws (a .1 .0)) (LL.val P.the-type P′.the-laws (a .1 .1 .1 .1 .0)) (are .1 .0) (are .1 .1 .1 .1 .0)
     (𝓣 .C) (𝓣 .Λ) (fmOf 𝓤 H (W .laws) 𝓣)
-    (cited 𝓤 H (Called 𝓤 H (𝓖 .A) (𝓜 .mem) (𝓡 .run)) 𝓜 𝓡 code.env #called callee-def.routine code.calls-bq769x0·BQ769x0·init
+    (cited 𝓤 H (Called 𝓤 H (𝓖 .A) (𝓜 .mem) (𝓡 .run)) 𝓜 𝓡 code.env #called callee-def.routine code.calls-setup·init
     (callee-thm.met 𝓤 H 𝓜 𝓖 𝓡)) (are .1 .1 .0 .0 .1) (are .1 .1 .1 .0 .0 .1)))

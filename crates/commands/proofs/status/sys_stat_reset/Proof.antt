@@ -12,7 +12,7 @@ use Rattle.bus.specs.Raw.{Done, refuses, writeRaw}
 use Rattle.bq769x0.specs.Record.{isSound}
 use Rattle.bq769x0.specs.declared.BQ769x0.{BQ769x0}
 use Rattle.bq769x0.proofs.Soundly.{sound-on, sound-off}
-use Rattle.commands.specs.Bits.{holds}
+use Rattle.units.specs.Flags.{bit}
 use Rattle.commands.specs.Commands.{sysStatReset}
 use borrow.Author.Needs.{needs}
 use Rattle.commands.proofs.status.sys_stat_reset.Statement.{statement}
@@ -47,11 +47,11 @@ module _ (c : tie.Else1) where
   sound : isSound (device start) ≡ true
   sound = sym (c .before .is-sound .ensures) ∙ not-false _ (c .if1 .left)
 
-  unknown : holds 0b0100_0000 (byte start) ≡ true → record { answer = refuses 18; bus = bus start } ≡ whole start
+  unknown : bit 6 (byte start) ≡ true → record { answer = refuses 18; bus = bus start } ≡ whole start
   unfolding onTape
   unknown t = sym (sound-on _ _ _ _ sound ∙ rw t)
 
-  known : holds 0b0100_0000 (byte start) ≡ false
+  known : bit 6 (byte start) ≡ false
       → onTape (writeRaw (device start .link) 0x00 (byte start ∷ [])) (bus start) ≡ whole start
   known t = sym (sound-on _ _ _ _ sound ∙ rw t)
 
@@ -62,11 +62,11 @@ is-sound-requires c κs = search needs
 returns : tie.Need-returns
 returns c = sym (sound-off _ _ _ _ (sym (c .before .is-sound .ensures) ∙ not-true _ (c .if1 .taken)))
 
-holds-requires : tie.Need-holds-requires
-holds-requires c κs = search needs
+has-reserved-requires : tie.Need-has-reserved-requires
+has-reserved-requires c κs = search needs
 
 returns-2 : tie.Need-returns-2
-returns-2 c = unknown (c .before .before) (sym (c .before .holds .ensures) ∙ c .if2 .taken)
+returns-2 c = unknown (c .before .before) (sym (c .before .has-reserved .ensures) ∙ c .if2 .taken)
 
 slice-aggregate-write-raw : tie.Need-slice-aggregate-write-raw
 slice-aggregate-write-raw c = search needs
@@ -80,7 +80,7 @@ same-length c = search needs
 returns-3 : tie.Need-returns-3
 returns-3 c =
     c .before .before .write-raw .ensures
-    ∙ known (at-known c .before .before) (sym (at-known c .before .holds .ensures) ∙ at-known c .if2 .left)
+    ∙ known (at-known c .before .before) (sym (at-known c .before .has-reserved .ensures) ∙ at-known c .if2 .left)
 
 pub sys-stat-reset-spec : {M : Type 1} → statement M
 sys-stat-reset-spec =
@@ -88,7 +88,7 @@ sys-stat-reset-spec =
     (tie.spec
     is-sound-requires
     returns
-    holds-requires
+    has-reserved-requires
     returns-2
     slice-aggregate-write-raw
     write-raw-requires

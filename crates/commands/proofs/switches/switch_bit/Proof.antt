@@ -1,26 +1,25 @@
 -- `commands::switches::switch_bit` meets its contract. Assumes nothing.
 use mathlib.Core.Path.{_≡_, sym, ap, _∙_}
-use mathlib.Core.Bool.{Bool, true, false, Bool·beq}
+use mathlib.Core.Bool.{Bool, true, false}
 use mathlib.Core.Option.{none, some}
 use Prim.Native.Nat.{ℕ}
 use Rattle.refusals.specs.Refusal.{value}
 use Rattle.bus.specs.Raw.{asRaw}
-use Rattle.commands.specs.Bits.{holds, switched, switching}
-use Rattle.commands.proofs.Register.{unread, kept, replaced}
+use Rattle.bits.specs.Bits.{switched, stands, switching}
+use Rattle.commands.proofs.OneRegister.{unread, kept, replaced}
 use borrow.Author.Needs.{needs}
 use Rattle.commands.proofs.switches.switch_bit.Statement.{statement}
 use Rattle.commands.proofs.switches.switch_bit.Tie as tie
 
 -- ---- the test of the bit
-module _ (mask byte : ℕ) (enable : Bool) {held : Bool} (held-is : held ≡ holds mask byte) where
-  stands : Bool·beq enable held ≡ true → switching mask enable byte ≡ none
+module _ (mask byte : ℕ) (enable : Bool) {held : Bool} (held-is : held ≡ stands mask enable byte) where
+  stood : held ≡ true → switching mask enable byte ≡ none
   unfolding switching
-  stands t = rw (sym held-is, t)
+  stood t = rw (sym held-is ∙ t)
 
-  differs : {x : ℕ} → Bool·beq enable held ≡ false → x ≡ switched mask enable byte
-      → switching mask enable byte ≡ some x
+  differs : {x : ℕ} → held ≡ false → x ≡ switched mask enable byte → switching mask enable byte ≡ some x
   unfolding switching
-  differs t x-is = rw (sym held-is, t, x-is)
+  differs t x-is = rw (sym held-is ∙ t, x-is)
 
 -- ---- the places
 abbrev at-read : tie.After-next → tie.After-read-raw
@@ -32,11 +31,11 @@ at-changed c = c .before .before .before .before
 abbrev at-switched : tie.After-slice-known3 → tie.After-switched
 at-switched c = at-changed c .before .before
 
-abbrev at-held : tie.After-slice-known3 → tie.After-holds
+abbrev at-held : tie.After-slice-known3 → tie.After-stands
 at-held c = at-switched c .before .before
 
 -- ---- the bit is tested where the read went well
-module _ (c : tie.After-holds) where
+module _ (c : tie.After-stands) where
   abbrev read : tie.After-read-raw
   read = at-read (c .before .before .before)
 
@@ -66,8 +65,8 @@ returns c =
 array-read-byte : tie.Need-array-read-byte
 array-read-byte c = search needs
 
-holds-requires : tie.Need-holds-requires
-holds-requires c κs = search needs
+stands-requires : tie.Need-stands-requires
+stands-requires c κs = search needs
 
 same-length-2 : tie.Need-same-length-2
 same-length-2 c = search needs
@@ -75,7 +74,7 @@ same-length-2 c = search needs
 returns-2 : tie.Need-returns-2
 returns-2 c =
     kept _ _ _ _ (read (c .before) .read-raw .ensures) (went (c .before))
-    (stands _ _ _ (c .before .holds .ensures) (c .if1 .taken))
+    (stood _ _ _ (c .before .stands .ensures) (c .if1 .taken))
 
 switched-requires : tie.Need-switched-requires
 switched-requires c κs = search needs
@@ -93,7 +92,7 @@ returns-3 : tie.Need-returns-3
 returns-3 c =
     c .before .before .write-raw .ensures
     ∙ replaced _ _ _ _ (read (at-held c) .read-raw .ensures) (went (at-held c))
-    (differs _ _ _ (at-held c .holds .ensures) (at-switched c .before .if1 .left) (at-switched c .switched .ensures))
+    (differs _ _ _ (at-held c .stands .ensures) (at-switched c .before .if1 .left) (at-switched c .switched .ensures))
 
 pub switch-bit-spec : {M : Type 1} → statement M
 switch-bit-spec =
@@ -106,7 +105,7 @@ switch-bit-spec =
     same-length
     returns
     array-read-byte
-    holds-requires
+    stands-requires
     same-length-2
     returns-2
     switched-requires

@@ -13,12 +13,13 @@ use Rattle.bus.specs.Transfers.{Bus, busOf}
 use Rattle.bus.specs.Programs.{Ran, ran, onTape}
 use Rattle.bus.specs.Raw.{asRaw}
 use Rattle.bq769x0.specs.declared.BQ769x0.{BQ769x0}
-use Rattle.bq769x0.specs.declared.init.Init.{Init}
-use Rattle.measuring.specs.Wired.{Shown, shown, wired}
-use Rattle.measuring.specs.declared.cells.Cells.{Cells}
-use Rattle.firmware.specs.JobCells.{listed, cellOf, hasRoom, storing}
+use Rattle.setup.specs.declared.left.Init.{Init}
+use Rattle.procedure.specs.Wired.{Shown, shown, wired}
+use Rattle.cells.specs.declared.Cells.{Cells}
+use Rattle.layout.specs.Cells.{cellOf, hasRoom}
+use Rattle.firmware.specs.JobCells.{listed, storing}
 use Rattle.firmware.specs.JobWired.{Beside, beside, unlisted, readWired}
-use Rattle.firmware.proofs.Reading.{has-room-is, room, no-room, Stores}
+use Rattle.firmware.proofs.Reading.{room, no-room, Stores}
 use Rattle.firmware.proofs.wired.read_wired.Statement.{statement}
 use Rattle.firmware.proofs.wired.read_wired.Tie as tie
 
@@ -73,7 +74,7 @@ abbrev at-start : tie.After-slice-known3 → tie.Start
 at-start c = c .before .before .before .before
 
 abbrev at-lent : tie.After-has-room → tie.After-slice-known3
-at-lent c = c .before .before
+at-lent c = c .before
 
 abbrev at-room : tie.After-wired → tie.Else1
 at-room c = c .before .before .before .before
@@ -113,9 +114,6 @@ module _ (c : tie.After-wired) where
       came s (roomy (at-room c)) (c .wired .result) shown-inputs numbers log left list′ (c .wired .ensures)
 
 -- ---- the needs
-cast-n : tie.Need-cast-n
-cast-n c = search needs
-
 has-room-requires : tie.Need-has-room-requires
 has-room-requires c κs = search needs
 
@@ -131,7 +129,7 @@ wired-requires : tie.Need-wired-requires
 wired-requires c κs = search needs
 
 store-read-requires : tie.Need-store-read-requires
-store-read-requires c κs = has-room-is _ _ (roomy (at-room (at-read (at-inputs c))))
+store-read-requires c κs = roomy (at-room (at-read (at-inputs c)))
 
 same-length : tie.Need-same-length
 same-length c = search needs
@@ -151,7 +149,6 @@ pub read-wired-spec : {M : Type 1} → statement M
 read-wired-spec =
     tie.close
     (tie.spec
-    cast-n
     has-room-requires
     returns
     slice-aggregate-wired

@@ -14,7 +14,7 @@ use Rattle.bq769x0.specs.declared.BQ769x0.{BQ769x0}
 use Rattle.bq769x0.proofs.Soundly.{sound-on, sound-off}
 use Rattle.measuring.specs.Word.{asWord, readWord}
 use Rattle.measuring.specs.Pack.{voltage}
-use Rattle.measuring.proofs.Heard.{Heard, heard}
+use Rattle.bus.proofs.Heard.{Heard, heard}
 use borrow.Author.Needs.{needs}
 use Rattle.measuring.proofs.pack.voltage.Statement.{statement}
 use Rattle.measuring.proofs.pack.voltage.Tie as tie

@@ -11,7 +11,7 @@ use Rattle.bq769x0.specs.declared.BQ769x0.{BQ769x0}
 use Rattle.bq769x0.proofs.Soundly.{sound-on, sound-off}
 use Rattle.measuring.specs.Temperature.{Sensed, asSensed, sense, degrees, temperature}
 use Rattle.measuring.specs.declared.degrees.Temperature.{Temperature}
-use Rattle.measuring.proofs.Heard.{Heard, heard}
+use Rattle.bus.proofs.Heard.{Heard, heard}
 use borrow.Author.Needs.{needs}
 use Rattle.measuring.proofs.temperature.temperature.Statement.{statement}
 use Rattle.measuring.proofs.temperature.temperature.Tie as tie

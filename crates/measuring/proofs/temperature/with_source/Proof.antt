@@ -8,7 +8,7 @@ use Rattle.commands.specs.Answers.{asSource}
 use Rattle.commands.specs.Commands.{temperatureSource}
 use Rattle.commands.specs.declared.control.TemperatureSource.{TemperatureSource}
 use Rattle.measuring.specs.Temperature.{Sensed, withSource}
-use Rattle.measuring.proofs.Heard.{Heard, heard}
+use Rattle.bus.proofs.Heard.{Heard, heard}
 use borrow.Author.Needs.{needs}
 use Rattle.measuring.proofs.temperature.with_source.Statement.{statement}
 use Rattle.measuring.proofs.temperature.with_source.Tie as tie

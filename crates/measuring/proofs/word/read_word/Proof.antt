@@ -9,9 +9,9 @@ use Rattle.refusals.specs.Refusal.{Answer, value}
 use Rattle.bus.specs.Transfers.{Bus, busOf}
 use Rattle.bus.specs.Programs.{Ran, onTape}
 use Rattle.bus.specs.Raw.{Done, gives, asRaw, readRaw}
-use Rattle.bq769x0.proofs.Calls.{read-on, read-off}
+use Rattle.bus.proofs.Calls.{read-on, read-off}
 use Rattle.measuring.specs.Word.{readWord}
-use Rattle.measuring.proofs.Heard.{Heard}
+use Rattle.bus.proofs.Heard.{Heard}
 use borrow.Author.Needs.{needs}
 use Rattle.measuring.proofs.word.read_word.Statement.{statement}
 use Rattle.measuring.proofs.word.read_word.Tie as tie

@@ -1,0 +1,3 @@
+pub mod OneBit
+pub mod Switching
+pub mod Unseen

@@ -1,0 +1,135 @@
+-- What an accepted reading by the wiring shows: at each place a fitted input, and the voltage that its two registers
+-- give. So what stands in the registers of a shorted input can't be seen.
+-- Assumes nothing.
+use mathlib.Core.Path.{_≡_, refl, sym, ap, ap₂, subst⁻¹, _∙_}
+use mathlib.Core.Bool.{true, false}
+use mathlib.Core.List.{List, map}
+use Prim.Native.Nat.{ℕ, _+_, _-_, _*_, _≤_, _<_, min}
+use native.Mathlib.Omega.{arith}
+use lib.IntN.{pos}
+use lib.ListN.{length, getD, length-map, List·getD-append, List·getD-map}
+use Rattle.numbers.specs.Numbers.{word, asU32}
+use Rattle.refusals.specs.Refusal.{value}
+use Rattle.adc.specs.Conversion.{millivolts}
+use Rattle.adc.specs.declared.transfer.AdcTransferFunction.{AdcTransferFunction}
+use Rattle.wiring.specs.Tables.{fitted}
+use Rattle.wiring.specs.Blocks.{shorted}
+use Rattle.wiring.proofs.Rows.{as-many, row-within}
+use Rattle.wiring.proofs.Undone.{inputAt, every-pack}
+use Rattle.bus.specs.Transfers.{Bus}
+use Rattle.bus.specs.Programs.{Ran, ran, onTape}
+use Rattle.bus.specs.Raw.{Done, asRaw, readBytes}
+use Rattle.bus.specs.declared.raw.RawAnswer.the-variants as R
+use Rattle.bus.proofs.Sized.{bytes-size}
+use Rattle.bq769x0.specs.Record.{isSound}
+use Rattle.bq769x0.specs.declared.BQ769x0.{BQ769x0}
+use Rattle.laws.specs.Over.{_over_}
+use Rattle.procedure.specs.Inputs.{converted}
+use Rattle.procedure.specs.Wired.{highOf, byteOf, ofRegisters, ofInput}
+use Rattle.procedure.specs.Wired.{Shown, shown, unshown, showing, readWired, wired}
+use Rattle.cells.specs.declared.Cells.{Cells}
+use Rattle.procedure.proofs.Fitted.{of-fitted}
+use Rattle.laws.proofs.Lists.{map-same, getD-any}
+use Rattle.procedure.proofs.Converted.{length-converted, converted-at}
+use Rattle.procedure.proofs.Reading.{by-call}
+use Rattle.bq769x0.proofs.Sizes.{sound-pack}
+
+-- ---- an input's reading is that of its two registers
+pub of-input : (adc : AdcTransferFunction) (bytes : List ℕ) (x input : ℕ)
+    → length bytes ≡ 2 * x → 1 ≤ input → input ≤ x
+    → ofInput (converted adc bytes) input ≡ ofRegisters adc bytes input
+of-input adc bytes x input size low high =
+    let i = input - 1 in
+    let there : i * 2 + 1 < length bytes = omega arith in
+    let more : i < length (converted adc bytes) = omega (arith, length-converted adc bytes) in
+    let first : i * 2 ≡ highOf input - 0x0C = omega arith in
+    let second : i * 2 + 1 ≡ highOf input + 1 - 0x0C = omega arith in
+    let words = ap₂ (λ (h l : ℕ). word (getD bytes h 0) (getD bytes l 0)) first second in
+    ap asU32
+    (getD-any (converted adc bytes) i (pos 0) _ more
+    ∙ converted-at adc bytes i there
+    ∙ ap (millivolts (adc .gain) (adc .offset)) words)
+
+-- ---- an accepted reading, from the lists lent to the lists left
+pub record ByRegisters (d : BQ769x0) (b : Bus) (inputs list inputs′ list′ : List ℕ) : Type 0 where
+  pub sound : isSound d ≡ true
+  pub bytes : List ℕ
+  pub read : onTape (readBytes (d .link) 0x0C (2 * d .link .x)) b .answer ≡ value bytes
+  pub fits : inputs′ ≡ fitted (d .link .x) (d .«cell_count») over inputs
+  pub volts : list′ ≡ map (ofRegisters (d .adc) bytes) (fitted (d .link .x) (d .«cell_count»)) over list
+
+module _ (d : BQ769x0) (b : Bus) (inputs list : List ℕ) where
+  abbrev Accepted : Ran Shown → Type 0
+  Accepted x = x .answer .answer ≡ value tt → ByRegisters d b inputs list (x .answer .inputs) (x .answer .list)
+
+  accepted : Accepted (onTape (wired d inputs list) b)
+  unfolding wired readWired
+  accepted =
+      by-call d (min (length inputs) (length list)) (unshown d inputs list) (showing d inputs list) b Accepted
+      (λ r b′ e. absurd (let z : _≡_ {A = ℕ} 0 1 = cc in omega arith))
+      λ sound bytes b′ read e.
+      let size = bytes-size (d .link) 0x0C (2 * d .link .x) b bytes read in
+      record {
+        sound = sound;
+        bytes = bytes;
+        read = read;
+        fits = refl;
+        volts =
+            ap (λ (l : List ℕ). l over list)
+            (of-fitted d sound (ofInput (converted (d .adc) bytes)) (ofRegisters (d .adc) bytes)
+            (λ input low high. of-input (d .adc) bytes (d .link .x) input size low high));
+      }
+
+  -- by its promise, every run of the code that is accepted
+  pub by-registers : (r : Cells) (inputs′ list′ log : List ℕ)
+      → ran (shown (asRaw (r .answer)) (r .device) inputs′ list′) (b .tape) log (r .at) ≡ onTape (wired d inputs list) b
+      → r .answer ≡ R.Done → ByRegisters d b inputs list inputs′ list′
+  by-registers r inputs′ list′ log promise done = subst⁻¹ Accepted promise accepted (ap asRaw done)
+
+-- ---- the cell at a place, from 0
+module _ {d : BQ769x0} {b : Bus} {inputs list inputs′ list′ : List ℕ} (read : ByRegisters d b inputs list inputs′ list′)
+    (k : ℕ) (h : k < d .«cell_count») where
+  abbrev x : ℕ
+  x = d .link .x
+
+  abbrev n : ℕ
+  n = d .«cell_count»
+
+  more : k < length (fitted x n)
+  more = rw (as-many x n (sound-pack d (read .sound))) h
+
+  pub kth-input : getD inputs′ k 0 ≡ inputAt x n k
+  kth-input = ap (λ (l : List ℕ). getD l k 0) (read .fits) ∙ List·getD-append (fitted x n) _ 0 k more
+
+  pub kth-voltage : getD list′ k 0 ≡ ofRegisters (d .adc) (read .bytes) (inputAt x n k)
+  kth-voltage =
+      let f = ofRegisters (d .adc) (read .bytes) in
+      let there : k < length (map f (fitted x n)) = rw (length-map (fitted x n) f) more in
+      ap (λ (l : List ℕ). getD l k 0) (read .volts)
+      ∙ List·getD-append (map f (fitted x n)) _ 0 k there
+      ∙ getD-any (map f (fitted x n)) k 0 (f 0) there
+      ∙ List·getD-map f (fitted x n) k 0
+
+-- ---- two accepted readings whose bytes differ at shorted inputs alone show the same
+abbrev pub SameAt : List ℕ → List ℕ → ℕ → Type 0
+SameAt bytes bytes″ input =
+    (byteOf bytes (highOf input) ≡ byteOf bytes″ (highOf input))
+    × (byteOf bytes (highOf input + 1) ≡ byteOf bytes″ (highOf input + 1))
+
+pub shorted-unseen : {d : BQ769x0} {b b″ : Bus} {inputs list inputs′ list′ inputs″ list″ : List ℕ}
+    (one : ByRegisters d b inputs list inputs′ list′) (other : ByRegisters d b″ inputs list inputs″ list″)
+    → ((input : ℕ) → 1 ≤ input → input ≤ d .link .x → shorted (d .link .x) (d .«cell_count») input ≡ false
+    → SameAt (one .bytes) (other .bytes) input)
+    → (inputs′ ≡ inputs″) × (list′ ≡ list″)
+shorted-unseen {d} {list = list} one other same =
+    let x = d .link .x in
+    let n = d .«cell_count» in
+    let pack = sound-pack d (one .sound) in
+    let adc = d .adc in
+    let volts =
+    map-same (ofRegisters adc (one .bytes)) (ofRegisters adc (other .bytes)) (fitted x n) λ k h.
+    let more = rw (as-many x n pack) at h in
+    let within = row-within x n pack k more in
+    let alike = same (inputAt x n k) (within .0) (within .1) (every-pack x n pack .unshorted k more) in
+    ap₂ (λ (high low : ℕ). asU32 (millivolts (adc .gain) (adc .offset) (word high low))) (alike .0) (alike .1) in
+    (one .fits ∙ sym (other .fits), one .volts ∙ ap (λ (l : List ℕ). l over list) volts ∙ sym (other .volts))

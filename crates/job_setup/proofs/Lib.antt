@@ -1,0 +1,2 @@
+pub mod Example
+mod Stages

@@ -1,0 +1,3 @@
+mod CellBytes
+mod Laid
+pub mod Room

@@ -1,0 +1,59 @@
+-- `lines::bytes` ends. Assumes nothing.
+use Prim.Native.Nat.{_-_}
+use lib.ListN.{length}
+use borrow.Author.Needs.{needs}
+use Rattle.lines.proofs.bytes.Statement.{statement}
+use Rattle.lines.proofs.bytes.Tie as tie
+
+abbrev Inv-loop : tie.InvT-loop
+Inv-loop name bytes i₀ t4 i = Unit {0}
+
+abbrev μ-loop : tie.MeasureT-loop
+μ-loop name bytes i₀ t4 i = length bytes - i
+
+words-requires : tie.Need-words-requires Inv-loop μ-loop
+words-requires c κs = search needs
+
+loop-holds : tie.Need-loop-holds Inv-loop μ-loop
+loop-holds c = search needs
+
+shared-slice-read-hex : tie.Need-shared-slice-read-hex Inv-loop μ-loop
+shared-slice-read-hex c = search needs
+
+hex-requires : tie.Need-hex-requires Inv-loop μ-loop
+hex-requires c κs = search needs
+
+add-i : tie.Need-add-i Inv-loop μ-loop
+add-i c = search needs
+
+loop-less : tie.Need-loop-less Inv-loop μ-loop
+loop-less c = search needs
+
+loop-again : tie.Need-loop-again Inv-loop μ-loop
+loop-again c = search needs
+
+slice-aggregate-words : tie.Need-slice-aggregate-words Inv-loop μ-loop
+slice-aggregate-words c = search needs
+
+words-requires-2 : tie.Need-words-requires-2 Inv-loop μ-loop
+words-requires-2 c κs = search needs
+
+returns : tie.Need-returns Inv-loop μ-loop
+returns c = search needs
+
+pub bytes-spec : {M : Type 1} → statement M
+bytes-spec =
+    tie.close
+    (tie.spec
+    Inv-loop
+    μ-loop
+    words-requires
+    loop-holds
+    shared-slice-read-hex
+    hex-requires
+    add-i
+    loop-less
+    loop-again
+    slice-aggregate-words
+    words-requires-2
+    returns)

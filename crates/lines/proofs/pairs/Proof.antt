@@ -1,0 +1,67 @@
+-- `lines::pairs` ends. Assumes nothing.
+use Prim.Native.Nat.{_-_}
+use lib.ListN.{length}
+use borrow.Author.Needs.{needs}
+use Rattle.lines.proofs.pairs.Statement.{statement}
+use Rattle.lines.proofs.pairs.Tie as tie
+
+abbrev Inv-loop : tie.InvT-loop
+Inv-loop name first second count i₀ t6 i = Unit {0}
+
+abbrev μ-loop : tie.MeasureT-loop
+μ-loop name first second count i₀ t6 i = length first - i
+
+words-requires : tie.Need-words-requires Inv-loop μ-loop
+words-requires c κs = search needs
+
+loop-holds : tie.Need-loop-holds Inv-loop μ-loop
+loop-holds c = search needs
+
+shared-slice-read-whole : tie.Need-shared-slice-read-whole Inv-loop μ-loop
+shared-slice-read-whole c = search needs
+
+whole-requires : tie.Need-whole-requires Inv-loop μ-loop
+whole-requires c κs = search needs
+
+number-requires : tie.Need-number-requires Inv-loop μ-loop
+number-requires c κs = search needs
+
+number-at-requires : tie.Need-number-at-requires Inv-loop μ-loop
+number-at-requires c κs = search needs
+
+add-i : tie.Need-add-i Inv-loop μ-loop
+add-i c = search needs
+
+loop-less : tie.Need-loop-less Inv-loop μ-loop
+loop-less c = search needs
+
+loop-again : tie.Need-loop-again Inv-loop μ-loop
+loop-again c = search needs
+
+slice-aggregate-words : tie.Need-slice-aggregate-words Inv-loop μ-loop
+slice-aggregate-words c = search needs
+
+words-requires-2 : tie.Need-words-requires-2 Inv-loop μ-loop
+words-requires-2 c κs = search needs
+
+returns : tie.Need-returns Inv-loop μ-loop
+returns c = search needs
+
+pub pairs-spec : {M : Type 1} → statement M
+pairs-spec =
+    tie.close
+    (tie.spec
+    Inv-loop
+    μ-loop
+    words-requires
+    loop-holds
+    shared-slice-read-whole
+    whole-requires
+    number-requires
+    number-at-requires
+    add-i
+    loop-less
+    loop-again
+    slice-aggregate-words
+    words-requires-2
+    returns)

@@ -1,0 +1,136 @@
+// The lines of one call: its transfers, and what it answered.
+use bus::Cursor;
+use bus::raw::Raw;
+use bus::raw::RawAnswer;
+use plan::InitAnswer;
+use plan::answer::InitNumbers;
+use refusals::Error;
+
+mod fields;
+
+// The fields that a call added to the log.
+pub fn transfers(log: &[u8], at: Cursor, next: Cursor) {
+    fields::between(log, at.log, next.log);
+}
+
+// A refusal's number, and as many of the two figures as it names.
+pub fn refused(e: Error) {
+    let numbers = e.in_numbers();
+    text::words(b"refused");
+    text::number(numbers.0 as u64);
+    if 0 < numbers.1 {
+        text::number(numbers.2 as u64);
+    }
+    if 1 < numbers.1 {
+        text::number(numbers.3 as u64);
+    }
+    text::words(b"\n");
+}
+
+// What an init reports, or what it refuses with.
+pub fn init(answer: InitAnswer) {
+    match answer {
+        InitAnswer::Ready(_) => ready(answer.in_numbers()),
+        InitAnswer::Refused(e) => refused(e),
+    }
+}
+
+fn ready(numbers: InitNumbers) {
+    text::words(b"init range");
+    text::number(numbers.0 as u64);
+    text::words(b" scd");
+    text::number(numbers.1 as u64);
+    text::words(b" ocd");
+    text::number(numbers.2 as u64);
+    text::words(b" uv");
+    text::number(numbers.3 as u64);
+    text::words(b" ov");
+    text::number(numbers.4 as u64);
+    text::words(b"\n");
+}
+
+pub fn number(name: &[u8], n: u64) {
+    text::words(name);
+    text::number(n);
+    text::words(b"\n");
+}
+
+pub fn signed_number(name: &[u8], n: i32) {
+    text::words(name);
+    text::signed_number(n);
+    text::words(b"\n");
+}
+
+// A call that answers no more than that it is done.
+pub fn raw(made: Raw, log: &[u8], at: Cursor) -> Cursor {
+    let answer = made.answer;
+    let next = made.at;
+    transfers(log, at, next);
+    match answer {
+        RawAnswer::Done => text::words(b"done\n"),
+        RawAnswer::Refused(e) => refused(e),
+    }
+    next
+}
+
+fn wide(n: u32) -> u64 {
+    n as u64
+}
+
+// The first `count` of a list, or all where it has no more.
+pub fn numbers(name: &[u8], list: &[u32], count: usize) {
+    text::words(name);
+    let mut i = 0;
+    while i < list.len() {
+        if i < count {
+            text::number(wide(list[i]));
+        }
+        i += 1;
+    }
+    text::words(b"\n");
+}
+
+fn whole(n: u8) -> u64 {
+    n as u64
+}
+
+pub fn small_numbers(name: &[u8], list: &[u8]) {
+    text::words(name);
+    let mut i = 0;
+    while i < list.len() {
+        text::number(whole(list[i]));
+        i += 1;
+    }
+    text::words(b"\n");
+}
+
+// The number at a place, where there is one.
+fn number_at(list: &[u32], i: usize) {
+    if i < list.len() {
+        text::number(wide(list[i]));
+    }
+}
+
+// The first `count` of two lists, each number of the first ahead of the one beside it.
+pub fn pairs(name: &[u8], first: &[u8], second: &[u32], count: usize) {
+    text::words(name);
+    let mut i = 0;
+    while i < first.len() {
+        if i < count {
+            text::number(whole(first[i]));
+            number_at(second, i);
+        }
+        i += 1;
+    }
+    text::words(b"\n");
+}
+
+pub fn bytes(name: &[u8], bytes: &[u8]) {
+    text::words(name);
+    let mut i = 0;
+    while i < bytes.len() {
+        text::hex(bytes[i]);
+        i += 1;
+    }
+    text::words(b"\n");
+}

@@ -1,0 +1,5 @@
+pub mod Calibrate
+pub mod Init
+pub mod Inputs
+pub mod Cells
+pub mod Wired

@@ -1,0 +1,1 @@
+// No code: setting up, as a program over transfers.

@@ -1,0 +1,4 @@
+mod Asked
+mod Fields
+mod Heard
+mod Moves

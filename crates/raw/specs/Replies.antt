@@ -1,0 +1,76 @@
+-- What the code's private steps say of one transfer, in the terms of Transfers.
+-- Assumes nothing.
+use mathlib.Core.Path.{_≡_}
+use mathlib.Core.Bool.{Bool, true, false, _&&_}
+use Prim.Native.Nat.{ℕ, _+_, _≤_}
+use mathlib.Core.List.{List, []}
+use lib.ListN.{length, take, drop}
+use lib.Dec.{eqb, leb}
+use Rattle.refusals.specs.Refusal.{asRefusal, Answer, value, refused}
+use Rattle.refusals.specs.declared.Error.the-variants as E
+use Rattle.frames.specs.Frames.{dataOf}
+use Rattle.frames.specs.Put.{put}
+use Rattle.laws.specs.Choice.{if_then_else_}
+use Rattle.bus.specs.Transfers.{Transfer, Outcome, done, fault, stopped, Bus, busOf, outcome, after}
+use Rattle.bus.specs.Raw.{Done, refuses, Read, gives, whereRight}
+use Rattle.bus.specs.declared.Cursor.{Cursor}
+use Rattle.raw.specs.declared.transfer.Moved.{Moved}
+use Rattle.raw.specs.declared.transfer.Reply.{Reply}
+use Rattle.raw.specs.declared.transfer.Reply.the-variants.{Made, Stopped}
+
+abbrev pub judged : ℕ → ℕ → ℕ → Reply
+judged want tag len =
+    if eqb tag 0x01 && eqb len want then Made false len
+    else if eqb tag 0x02 && leb len want then Made true len
+    else Stopped E.BadTape
+
+abbrev pub delivered : Bool → List ℕ → Outcome
+delivered false bytes = done bytes
+delivered true bytes = fault bytes
+
+-- a reply, with the bytes among which those delivered stand first
+abbrev pub outcomeOf : Reply → List ℕ → Outcome
+outcomeOf (Made faulted n) bytes = delivered faulted (take n bytes)
+outcomeOf (Stopped e) bytes = stopped (asRefusal e)
+
+-- as many bytes as are wanted, or at most those before a fault; and no more than stand there
+abbrev pub Within : ℕ → ℕ → Reply → Type 0
+Within want room (Made false n) = (n ≡ want) × (3 + n ≤ room)
+Within want room (Made true n) = (n ≤ want) × (3 + n ≤ room)
+Within want room (Stopped e) = Unit {0}
+
+-- a reply that says what is answered, on the rest of the tape
+pub record Heard (want : ℕ) (rest : List ℕ) (answer : Outcome) (r : Reply) : Type 0 where
+  pub said : outcomeOf r (drop 3 rest) ≡ answer
+  pub within : Within want (length rest) r
+
+-- the caller's buffer after a read: the bytes delivered, and what stood behind them
+abbrev pub storedIn : List ℕ → Outcome → List ℕ
+storedIn buf (done bytes) = put buf 0 bytes
+storedIn buf (fault bytes) = put buf 0 bytes
+storedIn buf (stopped r) = buf
+
+-- a transfer that went as its outcome on a bus says
+pub record WentBy (t : Transfer) (b : Bus) (o : Outcome) (log : List ℕ) (at : Cursor) : Type 0 where
+  pub went : o ≡ outcome t b
+  pub bus : busOf (b .tape) log at ≡ after t (outcome t b) b
+
+pub record ReadBy (t : Transfer) (b : Bus) (buf : List ℕ) (m : Moved) (buf′ log′ : List ℕ) : Type 0 where
+  pub moved : WentBy t b (outcomeOf (m .reply) buf′) log′ (m .at)
+  pub stored : buf′ ≡ storedIn buf (outcome t b)
+  pub whole : (n : ℕ) → m .reply ≡ Made false n → n ≡ length buf
+
+pub record WrittenBy (t : Transfer) (b : Bus) (m : Moved) (log′ : List ℕ) : Type 0 where
+  pub moved : WentBy t b (outcomeOf (m .reply) []) log′ (m .at)
+
+-- a reply as an answer: a fault is 2
+abbrev pub answerTo : Reply → Answer Done
+answerTo (Made false n) = value tt
+answerTo (Made true n) = refuses 2
+answerTo (Stopped e) = refused (asRefusal e)
+
+-- what a frame with check bytes gives, as it stands in the code's buffer after the transfer
+unfoldable pub taken : ℕ → List ℕ → List ℕ → Reply → Read
+taken address buf frame (Made false n) = whereRight address buf frame (gives (value tt) (put buf 0 (dataOf frame)))
+taken address buf frame (Made true n) = whereRight address buf frame (gives (refuses 2) buf)
+taken address buf frame (Stopped e) = gives (refused (asRefusal e)) buf

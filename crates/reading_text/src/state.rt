@@ -1,0 +1,59 @@
+// What the calls share, and its line at the end.
+use bq769x0::BQ769x0;
+use bus::Cursor;
+use units::MilliVolts;
+
+pub struct State {
+    pub device: BQ769x0,
+    pub at: Cursor,
+    pub lists: bool, // whether a cell call prints the whole of its list too
+}
+
+fn bit(b: bool) -> u64 {
+    if b { 1 } else { 0 }
+}
+
+fn wide(z: i8) -> i32 {
+    z as i32
+}
+
+fn cells(cells: [MilliVolts; 15]) {
+    let mut i = 0;
+    while i < 15 {
+        let cell = cells[i];
+        text::number(cell.0 as u64);
+        i += 1;
+    }
+}
+
+impl State {
+    pub fn after(self, device: BQ769x0, at: Cursor) -> State {
+        State {
+            device,
+            at,
+            lists: self.lists,
+        }
+    }
+
+    pub fn print(self) {
+        let device = self.device;
+        let at = self.at;
+        let link = device.link;
+        text::words(b"record");
+        text::number(link.x as u64);
+        text::number(device.cell_count as u64);
+        text::number(link.address as u64);
+        text::number(bit(link.check));
+        text::number(device.adc_gain() as u64);
+        text::signed_number(wide(device.adc_offset()));
+        text::number(bit(device.is_initialized()));
+        text::number(device.shunt.0 as u64);
+        let held = device.readings.cells;
+        cells(held);
+        text::words(b" tape");
+        text::number(at.tape as u64);
+        text::words(b" log");
+        text::number(at.log as u64);
+        text::words(b"\n");
+    }
+}

@@ -1,0 +1,2 @@
+pub mod Agree
+mod Onward

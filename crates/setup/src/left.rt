@@ -1,0 +1,17 @@
+// What setting up answers, the record that it leaves, and how far tape and log are used then.
+use bq769x0::BQ769x0;
+use bus::Cursor;
+use bus::raw::RawAnswer;
+use plan::InitAnswer;
+
+pub struct Calibrated {
+    pub answer: RawAnswer,
+    pub device: BQ769x0,
+    pub at: Cursor,
+}
+
+pub struct Init {
+    pub answer: InitAnswer,
+    pub device: BQ769x0,
+    pub at: Cursor,
+}
