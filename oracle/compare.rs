@@ -6,6 +6,7 @@ mod bus;
 mod crates;
 mod job;
 mod make;
+mod parts;
 mod shrink;
 
 use bus::hex;

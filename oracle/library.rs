@@ -10,6 +10,7 @@ mod job;
 mod linked;
 #[allow(dead_code)]
 mod make;
+mod parts;
 mod shrink;
 
 use asked::{asked, Asked};

@@ -1,5 +1,5 @@
 //! The least job that still shows something, by leaving out fields and lowering bytes.
-use crate::bus::field;
+use crate::parts::parts;
 
 pub fn least(bytes: &[u8], shows: &dyn Fn(&[u8]) -> bool) -> Vec<u8> {
     let mut bytes = bytes.to_vec();
@@ -7,18 +7,6 @@ pub fn least(bytes: &[u8], shows: &dyn Fn(&[u8]) -> bool) -> Vec<u8> {
         bytes = smaller;
     }
     bytes
-}
-
-/// The job's fields, head and tape alike; what is no field is one part.
-fn parts(bytes: &[u8]) -> Vec<&[u8]> {
-    let mut parts = Vec::new();
-    let mut left = bytes;
-    while !left.is_empty() {
-        let length = field(left).map_or(left.len(), |(_, value)| 3 + value.len());
-        parts.push(&left[..length]);
-        left = &left[length..];
-    }
-    parts
 }
 
 /// A run of fields left out, the longest first; or a call and a run of the fields that answer it.

@@ -1,4 +1,4 @@
-//! Runs the stored jobs of callrun and staterun, those under # and ###, on the crate, and holds it to the stored answers.
+//! Runs the stored jobs of callrun and staterun on the crate, as files of tests/jobs have them, and holds it to their answers.
 #![allow(incomplete_features)]
 #![feature(generic_const_exprs)]
 mod bus;
@@ -7,39 +7,57 @@ mod job;
 
 use std::process::exit;
 
-/// Each name, a line from #, and the text below it.
-fn parts(text: &str) -> Vec<(&str, String)> {
-    let mut parts: Vec<(&str, String)> = Vec::new();
-    for line in text.lines() {
-        match parts.last_mut() {
-            Some((_, below)) if !line.starts_with('#') => *below += &format!("{line}\n"),
-            _ => parts.push((line, String::new())),
-        }
-    }
-    parts
+/// A job of a file: the heading, which begins with the program's name, the bytes, and the answer below them.
+struct Stored {
+    heading: String,
+    bytes: Vec<u8>,
+    answer: String,
 }
 
-fn bytes(hex: &str) -> Vec<u8> {
-    let digits: Vec<u32> = hex.chars().filter(|c| !c.is_whitespace()).map(|c| c.to_digit(16).expect("a digit")).collect();
+/// The bytes of an indented line, ahead of a comment.
+fn bytes(line: &str) -> Vec<u8> {
+    let words = line.split('#').next().unwrap();
+    if words.trim() == "none" {
+        return Vec::new();
+    }
+    let digits: Vec<u32> = words.chars().filter(|c| !c.is_whitespace()).map(|c| c.to_digit(16).expect("a digit")).collect();
     digits.chunks(2).map(|pair| (pair[0] * 16 + pair[1]) as u8).collect()
 }
 
+/// A file's jobs: a heading, indented bytes, the answer, and a blank line where the next one follows.
+fn jobs(text: &str) -> Vec<Stored> {
+    let mut jobs: Vec<Stored> = Vec::new();
+    let mut within = false;
+    for line in text.lines().filter(|line| !line.trim_start().starts_with('#')) {
+        match jobs.last_mut() {
+            _ if line.trim().is_empty() => within = false,
+            Some(job) if within && line.starts_with(char::is_whitespace) => job.bytes.extend(bytes(line)),
+            Some(job) if within => job.answer += &format!("{line}\n"),
+            _ => {
+                within = true;
+                jobs.push(Stored { heading: line.to_string(), bytes: Vec::new(), answer: String::new() });
+            }
+        }
+    }
+    jobs
+}
+
 fn main() {
+    let files: Vec<String> = std::env::args().skip(1).collect();
+    assert!(!files.is_empty(), "stored FILE..");
+    let texts = files.iter().map(|file| std::fs::read_to_string(file).unwrap_or_else(|error| panic!("{file}: {error}")));
+    let stored: Vec<Vec<Stored>> = texts.map(|text| jobs(&text)).collect();
     std::panic::set_hook(Box::new(|_| {}));
-    let arguments: Vec<String> = std::env::args().collect();
-    let [_, jobs, answers] = &arguments[..] else { panic!("stored JOBS ANSWERS") };
-    let (jobs, answers) = (std::fs::read_to_string(jobs).expect("the jobs"), std::fs::read_to_string(answers).expect("the answers"));
-    let (jobs, answers) = (parts(&jobs), parts(&answers));
-    assert_eq!(jobs.len(), answers.len(), "an answer for each job");
     let mut run = 0;
-    for ((name, job), (same, answer)) in jobs.iter().zip(&answers).filter(|((name, _), _)| !name.starts_with("## ")) {
-        assert_eq!(name, same, "the answers are in the jobs' order");
-        run += 1;
-        for overflow_checks in [true, false] {
-            let text = crates::text(&bytes(job), overflow_checks);
-            if text != *answer {
-                println!("stored jobs: {name}\nstored:\n{answer}the crate, overflow checks {overflow_checks}:\n{text}");
-                exit(1);
+    for (file, jobs) in files.iter().zip(&stored) {
+        for Stored { heading, bytes, answer } in jobs.iter().filter(|job| !job.heading.starts_with("initrun: ")) {
+            run += 1;
+            for overflow_checks in [true, false] {
+                let text = crates::text(bytes, overflow_checks);
+                if text != *answer {
+                    println!("stored jobs: {file}: {heading}\nstored:\n{answer}the crate, overflow checks {overflow_checks}:\n{text}");
+                    exit(1);
+                }
             }
         }
     }
