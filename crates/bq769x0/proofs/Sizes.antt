@@ -5,8 +5,8 @@ use mathlib.Core.Bool.{Bool, true, false, not}
 use Prim.Native.Nat.{_≤_}
 use lib.Dec.{T, ltb}
 use Rattle.refusals.specs.Refusal.{Answer, value, refusedIf}
-use Rattle.wiring.specs.Sizes.{isSize, isCount}
-use Rattle.wiring.proofs.Sizes.{at-most-15}
+use Rattle.sizes.specs.Sizes.{isSize, isCount}
+use Rattle.sizes.proofs.Sizes.{at-most-15}
 use Rattle.bus.specs.Raw.{Done}
 use Rattle.bq769x0.specs.Record.{deviceFor, accepts, isSound}
 use Rattle.bq769x0.specs.declared.BQ769x0.{BQ769x0}

@@ -9,7 +9,7 @@ use borrow.Author.Tests.{le-leb, ltb-false, eqb-true, not-false}
 use Rattle.refusals.specs.Refusal.{value, refusedIf}
 use Rattle.refusals.proofs.Values.{refused-not}
 use Rattle.bus.specs.Raw.{Done, sound}
-use Rattle.wiring.specs.Sizes.{isSize, isCount}
+use Rattle.sizes.specs.Sizes.{isSize, isCount}
 use Rattle.bq769x0.specs.Record.{deviceFor, isSound}
 use Rattle.bq769x0.specs.declared.BQ769x0.{BQ769x0}
 use Rattle.bq769x0.proofs.Keeps.{decides}

@@ -7,7 +7,8 @@ use lib.Dec.{eqb, leb, ltb}
 use lib.IntN.{ℤ, pos, negsuc}
 use lib.ListN.{replicate}
 use Rattle.refusals.specs.Refusal.{Refusal, Answer, value, refused, refusedIf, asRefusal}
-use Rattle.wiring.specs.Sizes.{within, ofPack}
+use Rattle.sizes.specs.Sizes.{within}
+use Rattle.wiring.specs.Packs.{ofPack}
 use Rattle.laws.specs.Choice.{if_then_else_}
 use Rattle.bus.specs.Raw.{Done}
 use Rattle.bus.specs.declared.raw.Link.{Link}

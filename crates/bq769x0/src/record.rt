@@ -35,11 +35,11 @@ impl NewAnswer {
 }
 
 impl BQ769x0 {
-    pub const BQ76920: u8 = wiring::BQ76920;
+    pub const BQ76920: u8 = sizes::BQ76920;
 
-    pub const BQ76930: u8 = wiring::BQ76930;
+    pub const BQ76930: u8 = sizes::BQ76930;
 
-    pub const BQ76940: u8 = wiring::BQ76940;
+    pub const BQ76940: u8 = sizes::BQ76940;
 
     pub const SYS_CTRL2: u8 = 0x05;
 
@@ -164,10 +164,10 @@ impl BQ769x0 {
 fn device_answer(x: u8, dev_address: u8, cell_count: u8) -> NewAnswer
     ensures { λ r. ⌜ asMade r ≡ deviceFor x «dev_address» «cell_count» ⌝ }
 {
-    if !wiring::is_size(x) {
+    if !sizes::is_size(x) {
         return NewAnswer::Refused(Error::BadDevice);
     }
-    if !wiring::is_count(x, cell_count) {
+    if !sizes::is_count(x, cell_count) {
         return NewAnswer::Refused(Error::BadCellCount);
     }
     if 127 < dev_address {

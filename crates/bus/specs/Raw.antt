@@ -7,7 +7,7 @@ use lib.ListN.{length, replicate}
 use lib.IntN.{pos}
 use lib.Dec.{eqb, leb, ltb}
 use Rattle.refusals.specs.Refusal.{no, Answer, value, refused, answering, asRefusal}
-use Rattle.wiring.specs.Sizes.{isSize}
+use Rattle.sizes.specs.Sizes.{isSize}
 use Rattle.frames.specs.Frames.{readByte, right, dataOf, writeFrame}
 use Rattle.frames.specs.Put.{put}
 use Rattle.laws.specs.Choice.{if_then_else_}

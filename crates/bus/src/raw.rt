@@ -41,6 +41,6 @@ impl Link {
         if 127 < self.address {
             return false;
         }
-        wiring::is_size(self.x)
+        sizes::is_size(self.x)
     }
 }

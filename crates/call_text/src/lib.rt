@@ -1,52 +1,16 @@
-// A run of calls with its tape: each call's transfers and its answer printed, and the record last of all.
+// The calls of a bench job on its tape: each one's transfers and its answer printed, and the record last of all.
 use bq769x0::BQ769x0;
-use bq769x0::record::NewAnswer;
 use bus::Cursor;
 use calls::FieldAnswer;
-use calls::HeadAnswer;
-use calls::Heading;
 use reading_text::crate_list;
 use reading_text::measure;
 use reading_text::state::State;
 use reading_text::wired;
 
-pub mod given;
 mod init;
 
-// 15, then 9, 10, 11, then the calls.
-pub fn print(input: &[u8]) {
-    let head = calls::head(input);
-    match head {
-        HeadAnswer::Wanted(heading) => make(input, heading),
-        HeadAnswer::Refused(e) => lines::refused(e),
-    }
-}
-
-fn make(input: &[u8], heading: Heading) {
-    let asked = heading.device;
-    let tape_at = heading.tape_at;
-    let made = BQ769x0::new(asked.x, asked.address, asked.cells, asked.check);
-    let answer = made.answer;
-    let device = made.device;
-    match answer {
-        NewAnswer::Made => run(input, tape_at, device),
-        NewAnswer::Refused(e) => lines::refused(e),
-    }
-}
-
-fn run(input: &[u8], tape_at: usize, device: BQ769x0) {
-    let at = Cursor { tape: 0, log: 0 };
-    let state = State {
-        device,
-        at,
-        lists: false,
-    };
-    let mut log = [0u8; 65536];
-    print_calls(input, tape_at, state, &mut log);
-}
-
 // The calls on a record, a log and a cursor, and what they leave.
-fn print_calls(input: &[u8], tape_at: usize, state: State, log: &mut [u8]) {
+pub fn print(input: &[u8], tape_at: usize, state: State, log: &mut [u8]) {
     if input.len() < tape_at {
         return;
     }

@@ -13,10 +13,10 @@ use lib.ListN.{length, take, drop, getD, length-map, length-append, length-drop,
 use borrow.Author.Tests.{eq-eqb}
 use Rattle.laws.proofs.Tests.{both-left, both-right, agree, agreeing}
 use Rattle.refusals.specs.Refusal.{value}
-use Rattle.wiring.specs.Sizes.{isCount}
+use Rattle.sizes.specs.Sizes.{isCount}
 use Rattle.wiring.specs.Tables.{fitted}
 use Rattle.wiring.proofs.Packs.{of-pack}
-use Rattle.wiring.proofs.Sizes.{at-most-15}
+use Rattle.sizes.proofs.Sizes.{at-most-15}
 use Rattle.bus.specs.Transfers.{Bus}
 use Rattle.bus.specs.Programs.{Ran, ran, onTape}
 use Rattle.bus.specs.Raw.{asRaw, readBytes}

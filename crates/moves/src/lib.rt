@@ -16,12 +16,12 @@ pub fn in_turn(x: u8, cell_count: u8, cells: [MilliVolts; 15]) -> [MilliVolts; 1
     let cells = moved(first, 2, 4, cells);
     let second = (cc == 4) | (cc == 7) | (cc == 8) | (cc == 10) | (cc == 11) | (cc == 12);
     let cells = moved(!first & second, 3, 4, cells);
-    let two_blocks = (x == wiring::BQ76930) | (x == wiring::BQ76940);
+    let two_blocks = (x == sizes::BQ76930) | (x == sizes::BQ76940);
     let third = (cc == 6) | (cc == 7) | (cc == 9) | (cc == 10);
     let cells = moved(two_blocks & third, 7, 9, cells);
     let fourth = (cc == 8) | (cc == 9) | (cc == 11) | (cc == 12) | (cc == 13);
     let cells = moved(two_blocks & fourth, 8, 9, cells);
-    let three_blocks = x == wiring::BQ76940;
+    let three_blocks = x == sizes::BQ76940;
     let fifth = (cc == 9) | (cc == 10) | (cc == 11);
     let cells = moved(three_blocks & fifth, 12, 14, cells);
     let sixth = (cc == 12) | (cc == 13) | (cc == 14);

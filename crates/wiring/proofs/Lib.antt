@@ -3,5 +3,4 @@ mod Found
 pub mod Packs
 pub mod Rising
 pub mod Rows
-pub mod Sizes
 pub mod Undone

@@ -5,8 +5,8 @@ use Prim.Native.Nat.{ℕ}
 use native.Mathlib.Omega.{arith}
 use lib.Dec.{T}
 use Rattle.laws.proofs.Tests.{allBelow, below}
-use Rattle.wiring.specs.Sizes.{isCount}
-use Rattle.wiring.proofs.Sizes.{at-most-15}
+use Rattle.sizes.specs.Sizes.{isCount}
+use Rattle.sizes.proofs.Sizes.{at-most-15}
 
 abbrev pub everyPack : (ℕ → ℕ → Bool) → Bool
 everyPack test = allBelow 16 λ x. allBelow 16 λ n. not (isCount x n) || test x n

@@ -7,12 +7,12 @@ use native.Mathlib.Omega.{arith}
 use lib.Dec.{T, eqb, eqb→eq}
 use lib.ListN.{length, take, getD, replicate, List·getD-append}
 use lib.Seq.{take-take, take-at, getD-take}
-use Rattle.wiring.specs.Sizes.{isCount}
+use Rattle.sizes.specs.Sizes.{isCount}
 use Rattle.wiring.specs.Tables.{fitted}
 use Rattle.wiring.specs.Questions.{fifteen}
 use Rattle.wiring.proofs.Packs.{of-pack}
 use Rattle.wiring.proofs.Rising.{rising, rising-within, rising-order}
-use Rattle.wiring.proofs.Sizes.{at-most-15}
+use Rattle.sizes.proofs.Sizes.{at-most-15}
 
 module _ (x n : ℕ) (pack : T (isCount x n)) where
   pub as-many : length (fitted x n) ≡ n

@@ -12,7 +12,8 @@ use borrow.Author.Tests.{lt-ltb, ltb-true, ltb-false, ne-eqb}
 use Rattle.laws.proofs.Tests.{is-true, allBelow, below, agree, agreeing}
 use Rattle.refusals.specs.Refusal.{Answer, value, refused, no}
 use Rattle.refusals.specs.declared.Error.the-variants as E
-use Rattle.wiring.specs.Sizes.{isSize, isCount, ofPack}
+use Rattle.sizes.specs.Sizes.{isSize, isCount}
+use Rattle.wiring.specs.Packs.{ofPack}
 use Rattle.wiring.specs.Tables.{fitted}
 use Rattle.wiring.specs.Questions.{inputsFor, cellFrom, cellOn, asCell, Listed, asInputs, listed}
 use Rattle.wiring.specs.declared.questions.CellAnswer.{CellAnswer}
@@ -23,7 +24,7 @@ use Rattle.wiring.proofs.Agree.{cell-agree}
 use Rattle.wiring.proofs.Found.{finds, found, either}
 use Rattle.wiring.proofs.Packs.{of-pack}
 use Rattle.wiring.proofs.Rows.{as-many, row-rises, row-within, row-order, row-at}
-use Rattle.wiring.proofs.Sizes.{at-most-15, of-a-device}
+use Rattle.sizes.proofs.Sizes.{at-most-15, of-a-device}
 
 -- the input of the cell at a place, from 0
 abbrev pub inputAt : ℕ → ℕ → ℕ → ℕ

@@ -1,4 +1,4 @@
-pub mod Sizes
+pub mod Packs
 pub mod Tables
 pub mod Questions
 pub mod Blocks

@@ -6,7 +6,7 @@ use mathlib.Core.List.{List, [], _∷_, _++_}
 use lib.Dec.{eqb}
 use lib.ListN.{replicate, take}
 use Rattle.refusals.specs.Refusal.{Answer, value, refused, no, asRefusal}
-use Rattle.wiring.specs.Sizes.{ofPack}
+use Rattle.wiring.specs.Packs.{ofPack}
 use Rattle.wiring.specs.Tables.{fitted}
 use Rattle.wiring.specs.declared.questions.CellAnswer.{CellAnswer}
 use Rattle.wiring.specs.declared.questions.CellAnswer.the-variants as C

@@ -26,10 +26,10 @@ pub enum CellAnswer {
 pub fn inputs(x: u8, cells: u8) -> Fitted
     ensures { λ r. ⌜ asInputs r ≡ listed (inputsFor x cells) ⌝ }
 {
-    if !crate::is_size(x) {
+    if !sizes::is_size(x) {
         return refuse(Error::BadDevice);
     }
-    if !crate::is_count(x, cells) {
+    if !sizes::is_count(x, cells) {
         return refuse(Error::BadCellCount);
     }
     Fitted {
@@ -50,10 +50,10 @@ fn refuse(e: Error) -> Fitted
 pub fn cell_on(x: u8, cells: u8, input: u8) -> CellAnswer
     ensures { λ r. ⌜ asCell r ≡ cellOn x cells input ⌝ }
 {
-    if !crate::is_size(x) {
+    if !sizes::is_size(x) {
         return CellAnswer::Refused(Error::BadDevice);
     }
-    if !crate::is_count(x, cells) {
+    if !sizes::is_count(x, cells) {
         return CellAnswer::Refused(Error::BadCellCount);
     }
     place(tables::fitted(x, cells), cells, input)

@@ -6,13 +6,13 @@ ghost use Rattle.wiring.specs.Questions.{fifteen};
 pub fn fitted(x: u8, cells: u8) -> [u8; 15]
     ensures { λ r. ⌜ r ≡ fifteen (fitted x cells) ⌝ }
 {
-    if x == crate::BQ76920 {
+    if x == sizes::BQ76920 {
         return bq76920(cells);
     }
-    if x == crate::BQ76930 {
+    if x == sizes::BQ76930 {
         return bq76930(cells);
     }
-    if x == crate::BQ76940 {
+    if x == sizes::BQ76940 {
         return bq76940(cells);
     }
     [0u8; 15]

@@ -2,7 +2,7 @@
 use mathlib.Core.Path.{_≡_, sym, _∙_}
 use mathlib.Core.Bool.{true}
 use borrow.Author.Tests.{not-true, not-false, lt-ltb, le-ltb}
-use Rattle.wiring.specs.Sizes.{isSize, isCount}
+use Rattle.sizes.specs.Sizes.{isSize, isCount}
 use Rattle.bq769x0.specs.Record.{deviceFor}
 use borrow.Author.Needs.{needs}
 use Rattle.bq769x0.proofs.record.device_answer.Statement.{statement}

@@ -5,11 +5,11 @@ use Prim.Native.Nat.{ℕ, _≤_}
 use lib.Dec.{T}
 use lib.ListN.{take}
 use borrow.Author.Tests.{not-true, not-false}
-use Rattle.wiring.specs.Sizes.{isSize, isCount}
+use Rattle.sizes.specs.Sizes.{isSize, isCount}
 use Rattle.wiring.specs.Tables.{fitted}
 use Rattle.wiring.specs.Questions.{cellOn, fifteen}
 use Rattle.wiring.proofs.Rows.{row-first}
-use Rattle.wiring.proofs.Sizes.{at-most-15}
+use Rattle.sizes.proofs.Sizes.{at-most-15}
 use borrow.Author.Needs.{needs}
 use Rattle.wiring.proofs.questions.cell_on.Statement.{statement}
 use Rattle.wiring.proofs.questions.cell_on.Tie as tie

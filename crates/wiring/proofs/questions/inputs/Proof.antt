@@ -2,7 +2,7 @@
 use mathlib.Core.Path.{_≡_, sym, _∙_}
 use mathlib.Core.Bool.{true}
 use borrow.Author.Tests.{not-true, not-false}
-use Rattle.wiring.specs.Sizes.{isSize, isCount}
+use Rattle.sizes.specs.Sizes.{isSize, isCount}
 use Rattle.wiring.specs.Questions.{inputsFor}
 use borrow.Author.Needs.{needs}
 use Rattle.wiring.proofs.questions.inputs.Statement.{statement}

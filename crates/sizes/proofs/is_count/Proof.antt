@@ -1,12 +1,12 @@
--- `wiring::is_count` meets its contract. Assumes nothing.
+-- `sizes::is_count` meets its contract. Assumes nothing.
 use mathlib.Core.Path.{_≡_, refl}
 use mathlib.Core.Bool.{Bool, true, false, _&&_, _||_}
 use Prim.Native.Nat.{ℕ}
 use lib.Dec.{eqb}
 use borrow.Author.Tests.{ne-eqb}
-use Rattle.wiring.specs.Sizes.{within, isCount}
-use Rattle.wiring.proofs.is_count.Statement.{statement}
-use Rattle.wiring.proofs.is_count.Tie as tie
+use Rattle.sizes.specs.Sizes.{within, isCount}
+use Rattle.sizes.proofs.is_count.Statement.{statement}
+use Rattle.sizes.proofs.is_count.Tie as tie
 
 -- the sizes exclude each other
 five : (t : Bool) → t ≡ (t || false || false)

@@ -1,8 +1,8 @@
--- `call_text::given::readings_of` ends. Assumes nothing.
+-- `staterun::given::readings_of` ends. Assumes nothing.
 use Prim.Native.Nat.{_-_}
 use borrow.Author.Needs.{needs}
-use Rattle.call_text.proofs.given.readings_of.Statement.{statement}
-use Rattle.call_text.proofs.given.readings_of.Tie as tie
+use Rattle.staterun.proofs.given.readings_of.Statement.{statement}
+use Rattle.staterun.proofs.given.readings_of.Tie as tie
 
 abbrev Inv-loop : tie.InvT-loop
 Inv-loop value cells₀ i₀ cells i = Unit {0}

@@ -1,11 +1,11 @@
--- `wiring::is_size` meets its contract. Assumes nothing.
+-- `sizes::is_size` meets its contract. Assumes nothing.
 use mathlib.Core.Path.{_≡_}
 use Prim.Native.Nat.{ℕ}
 use lib.Dec.{eqb}
 use borrow.Author.Tests.{ne-eqb}
-use Rattle.wiring.specs.Sizes.{isSize}
-use Rattle.wiring.proofs.is_size.Statement.{statement}
-use Rattle.wiring.proofs.is_size.Tie as tie
+use Rattle.sizes.specs.Sizes.{isSize}
+use Rattle.sizes.proofs.is_size.Statement.{statement}
+use Rattle.sizes.proofs.is_size.Tie as tie
 
 returns : tie.Need-returns
 returns c = simp (c .if1 .taken)

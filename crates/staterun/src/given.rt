@@ -85,7 +85,7 @@ fn is_given(input: &[u8]) -> bool
 }
 
 // 15, then the calls, whatever the record.
-pub fn print(input: &[u8]) {
+pub(crate) fn print(input: &[u8]) {
     if input.len() < JOB_AT {
         lines::refused(Error::BadTape);
         return;
@@ -120,6 +120,6 @@ fn run(value: &[u8], job: &[u8], heading: Heading)
 
 // The calls, and the log they leave.
 fn with_log(job: &[u8], tape_at: usize, state: State, log: &mut [u8]) {
-    crate::print_calls(job, tape_at, state, log);
+    call_text::print(job, tape_at, state, log);
     lines::bytes(b"log", log);
 }

@@ -8,7 +8,7 @@ use native.Mathlib.Omega.{arith}
 use lib.Dec.{T, eqb, leb, eqb→eq, leb→le}
 use mir.Facts.{or-yes}
 use Rattle.laws.proofs.Tests.{both-left, both-right}
-use Rattle.wiring.specs.Sizes.{isSize, within, isCount}
+use Rattle.sizes.specs.Sizes.{isSize, within, isCount}
 
 -- what holds of each device's packs holds of every pack
 module _ (P : ℕ → ℕ → Type 0)

@@ -1,9 +1,9 @@
--- `call_text::given::run` lends the part of the log that is asked for. Assumes nothing.
+-- `staterun::given::run` lends the part of the log that is asked for. Assumes nothing.
 use mathlib.Core.Path.{sym}
 use lib.Seq.{length-take-le}
 use borrow.Author.Needs.{needs}
-use Rattle.call_text.proofs.given.run.Statement.{statement}
-use Rattle.call_text.proofs.given.run.Tie as tie
+use Rattle.staterun.proofs.given.run.Statement.{statement}
+use Rattle.staterun.proofs.given.run.Tie as tie
 
 four-requires : tie.Need-four-requires
 four-requires c κs = search needs

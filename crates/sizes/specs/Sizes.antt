@@ -1,9 +1,8 @@
 -- The three devices, each named by its count of cell inputs, and the counts of cells that a pack on each may have.
 -- Assumes nothing.
 use Prim.Native.Nat.{ℕ}
-use mathlib.Core.Bool.{Bool, not, _&&_, _||_}
+use mathlib.Core.Bool.{Bool, _&&_, _||_}
 use lib.Dec.{eqb, leb}
-use Rattle.refusals.specs.Refusal.{Answer, refusedIf}
 
 -- BQ76920, BQ76930 and BQ76940 have 5, 10 and 15 inputs
 abbrev pub isSize : ℕ → Bool
@@ -15,7 +14,3 @@ within low high n = leb low n && leb n high
 -- 3 to 5, 6 to 10 or 9 to 15 cells
 abbrev pub isCount : ℕ → ℕ → Bool
 isCount x n = eqb x 5 && within 3 5 n || eqb x 10 && within 6 10 n || eqb x 15 && within 9 15 n
-
--- 9, 10, and else what is asked of the pack
-abbrev pub ofPack : {A : Type 0} → ℕ → ℕ → Answer A → Answer A
-ofPack x n answer = refusedIf (not (isSize x)) 9 (refusedIf (not (isCount x n)) 10 answer)
