@@ -1,3 +1,4 @@
 pub mod Agree
 pub mod BothLists
 pub mod ByRegisters
+pub mod Outcomes

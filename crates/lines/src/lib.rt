@@ -1,4 +1,5 @@
 // The lines of one call: its transfers, and what it answered.
+ghost use mathlib.Core.Path.{_≡_};
 use bus::Cursor;
 use bus::raw::Raw;
 use bus::raw::RawAnswer;
@@ -62,7 +63,9 @@ pub fn signed_number(name: &[u8], n: i32) {
 }
 
 // A call that answers no more than that it is done.
-pub fn raw(made: Raw, log: &[u8], at: Cursor) -> Cursor {
+pub fn raw(made: Raw, log: &[u8], at: Cursor) -> Cursor
+    ensures { λ r. ⌜ r ≡ made .at ⌝ }
+{
     let answer = made.answer;
     let next = made.at;
     transfers(log, at, next);

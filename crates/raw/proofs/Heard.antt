@@ -18,6 +18,7 @@ use Rattle.refusals.specs.declared.Error.the-variants as E
 use Rattle.laws.specs.Choice.{if_then_else_}
 use Rattle.bus.specs.Fields.{unfield}
 use Rattle.bus.specs.Transfers.{Outcome, done, fault, stopped, untape, says}
+use Rattle.bus.proofs.Order.{ended}
 use Rattle.raw.specs.Replies.{judged, outcomeOf, Within, Heard}
 use Rattle.raw.specs.declared.transfer.Reply.the-variants.{Made, Stopped}
 
@@ -30,12 +31,7 @@ pub fitting : (want room : ℕ) (f : Bool) (n : ℕ) → Within want room (Made 
 fitting want room true n h = h .1
 fitting want room false n h = h .1
 
--- ---- 16 and 15
-pub says-none : (want : ℕ) (l : List ℕ) → length l ≡ 0 → says want l ≡ stopped (no 16 [])
-unfolding says
-says-none want [] h = refl
-says-none want (a ∷ l) h = absurd (omega arith)
-
+-- ---- 15
 pub says-short : (want : ℕ) (l : List ℕ) → 0 < length l → length l < 3 → says want l ≡ stopped (no 15 [])
 unfolding says unfield untape
 says-short want [] h k = absurd (omega arith)
@@ -97,7 +93,7 @@ module _ (want at : ℕ) (l : List ℕ) where
       rw (add-one, add-two, add-three, drop-cons l at 0 h0, drop-cons l (suc at) 0 h1, drop-cons l (suc (suc at)) 0 h2)
 
   pub at-end : length l ≤ at → says want (drop at l) ≡ stopped (no 16 [])
-  at-end h = says-none want (drop at l) (simp length-drop (omega arith))
+  at-end h = ended want (drop at l) (simp length-drop (omega arith))
 
   pub at-short : at < length l → length l - at < 3 → says want (drop at l) ≡ stopped (no 15 [])
   at-short h k = says-short want (drop at l) (simp length-drop (omega arith)) (simp length-drop (omega arith))

@@ -1,4 +1,5 @@
 // What the calls share, and its line at the end.
+ghost use mathlib.Core.Path.{_≡_};
 use bq769x0::BQ769x0;
 use bus::Cursor;
 use units::MilliVolts;
@@ -27,7 +28,9 @@ fn cells(cells: [MilliVolts; 15]) {
 }
 
 impl State {
-    pub fn after(self, device: BQ769x0, at: Cursor) -> State {
+    pub fn after(self, device: BQ769x0, at: Cursor) -> State
+        ensures { λ r. ⌜ (r .device ≡ device) × (r .at ≡ at) × (r .lists ≡ self .lists) ⌝ }
+    {
         State {
             device,
             at,
