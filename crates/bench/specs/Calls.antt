@@ -12,7 +12,7 @@ use Rattle.adc.specs.declared.transfer.AdcTransferFunction.{AdcTransferFunction
 use Rattle.bus.specs.Programs.{Ran}
 use Rattle.bus.specs.Raw.{Read}
 use Rattle.bus.specs.declared.Cursor.{Cursor}
-use Rattle.bus.specs.declared.raw.Link.{Link}
+use Rattle.bus.specs.declared.link.Link.{Link}
 use Rattle.bq769x0.specs.Record.{ofParts}
 use Rattle.bq769x0.specs.declared.BQ769x0.{BQ769x0}
 use Rattle.procedure.specs.Cells.{Filled}

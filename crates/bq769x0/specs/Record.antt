@@ -11,7 +11,7 @@ use Rattle.sizes.specs.Sizes.{within}
 use Rattle.wiring.specs.Packs.{ofPack}
 use Rattle.laws.specs.Choice.{if_then_else_}
 use Rattle.bus.specs.Raw.{Done}
-use Rattle.bus.specs.declared.raw.Link.{Link}
+use Rattle.bus.specs.declared.link.Link.{Link}
 use Rattle.adc.specs.declared.transfer.AdcTransferFunction.{AdcTransferFunction}
 use Rattle.units.specs.declared.MicroOhms.{MicroOhms}
 use Rattle.bq769x0.specs.declared.BQ769x0.{BQ769x0}

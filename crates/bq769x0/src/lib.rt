@@ -1,6 +1,6 @@
 // The driver: its record, and the calls on it.
 use adc::transfer::AdcTransferFunction;
-use bus::raw::Link;
+use bus::link::Link;
 use units::MicroOhms;
 use units::MilliVolts;
 

@@ -6,7 +6,7 @@ ghost use Rattle.bq769x0.specs.Record.{withCalibration, withShunt, withR
 use crate::BQ769x0;
 use crate::Readings;
 use adc::transfer::AdcTransferFunction;
-use bus::raw::Link;
+use bus::link::Link;
 use refusals::Error;
 use units::MicroOhms;
 use units::MilliVolts;

@@ -4,8 +4,8 @@ ghost use Rattle.bus.specs.Raw.{asRaw, gives};
 ghost use Rattle.bq769x0.specs.Registers.{readRaw, writeRaw};
 use crate::BQ769x0;
 use bus::Cursor;
-use bus::raw::Raw;
-use bus::raw::RawAnswer;
+use bus::link::Raw;
+use bus::link::RawAnswer;
 use refusals::Error;
 
 impl BQ769x0 {

@@ -10,9 +10,9 @@ use Rattle.refusals.proofs.OneToOne.{answerBack, undone}
 use Rattle.bus.specs.Transfers.{Bus}
 use Rattle.bus.specs.Programs.{Prog, Ran, ran, onTape}
 use Rattle.bus.specs.Raw.{Done, Read, asRaw, gives}
-use Rattle.bus.specs.declared.raw.Raw.{Raw}
-use Rattle.bus.specs.declared.raw.RawAnswer.{RawAnswer}
-use Rattle.bus.specs.declared.raw.RawAnswer.the-variants as R
+use Rattle.bus.specs.declared.link.Raw.{Raw}
+use Rattle.bus.specs.declared.link.RawAnswer.{RawAnswer}
+use Rattle.bus.specs.declared.link.RawAnswer.the-variants as R
 
 finished : Done → RawAnswer
 finished x = R.Done

@@ -8,7 +8,7 @@ use Rattle.refusals.specs.Refusal.{Refusal, Answer, value, refused, answering}
 use Rattle.bus.specs.Transfers.{Bus}
 use Rattle.bus.specs.Programs.{Prog, ret, Ran, onTape, _orLeave_, _>>=_}
 use Rattle.bus.specs.Raw.{Done, Read, gives, readRaw, readBytes}
-use Rattle.bus.specs.declared.raw.Link.{Link}
+use Rattle.bus.specs.declared.link.Link.{Link}
 use Rattle.bus.proofs.Programs.{onTape-bind, went-on, went-off}
 
 module _ (s : Link) (reg n : ℕ) (b : Bus) {b′ : Bus} {a : Answer Done} {bytes : List ℕ}

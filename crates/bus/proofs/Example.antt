@@ -16,7 +16,7 @@ use Rattle.bus.specs.Programs.{Prog, ran, onTape, bind, proceed, _orLeav
 use Rattle.bus.specs.Raw.{Done, plainly, received, whereRight, checkedly}
 use Rattle.bus.specs.Raw.{plainRead, askFrame, checkedRead, readRaw, readBytes}
 use Rattle.bus.specs.Raw.{wrote, askWrite, send, compared, verified, askBack, writeRaw}
-use Rattle.bus.specs.declared.raw.Link.{Link}
+use Rattle.bus.specs.declared.link.Link.{Link}
 
 link : Bool → Link
 link check = record { address = 8; check = check; x = 5 }

@@ -23,7 +23,7 @@ use Rattle.bus.specs.Raw.{Done, sound, refuses, gives}
 use Rattle.bus.specs.Raw.{plainRead, askFrame, checkedRead, readRaw}
 use Rattle.bus.specs.Raw.{askWrite, send, compared, askBack, writeRaw}
 use Rattle.bus.proofs.Programs.{went-on, went-off}
-use Rattle.bus.specs.declared.raw.Link.{Link}
+use Rattle.bus.specs.declared.link.Link.{Link}
 
 -- the first of many zeros
 pub zeros : (k n : ℕ) → k ≤ n → take {A = ℕ} k (replicate n 0) ≡ replicate k 0

@@ -17,7 +17,7 @@ use Rattle.bus.specs.Transfers.{read, Outcome, done, fault, Bus, outcome
 use Rattle.bus.specs.Programs.{Ran, onTape}
 use Rattle.bus.specs.Raw.{sound, refuses, Read, gives, plainly, received, whereRight, checkedly}
 use Rattle.bus.specs.Raw.{plainRead, askFrame, readRaw}
-use Rattle.bus.specs.declared.raw.Link.{Link}
+use Rattle.bus.specs.declared.link.Link.{Link}
 use Rattle.bus.proofs.Raws.{checked-goes, read-checked, read-plain}
 
 module _ (s : Link) (reg : ℕ) (buf : List ℕ) (b : Bus) (ok : sound s ≡ true) (room : reg + length buf ≤ 256) where

@@ -22,7 +22,7 @@ use Rattle.bus.specs.Transfers.{logField, wanted, untape, says, answered
 use Rattle.bus.specs.Programs.{Prog, ret, Ran, onTape}
 use Rattle.bus.specs.Raw.{Done, sound, refuses, Read, gives, plainly, received, whereRight, checkedly}
 use Rattle.bus.specs.Raw.{plainRead, askFrame, checkedRead, readRaw, readBytes}
-use Rattle.bus.specs.declared.raw.Link.{Link}
+use Rattle.bus.specs.declared.link.Link.{Link}
 use Rattle.bus.proofs.Programs.{onTape-bind}
 
 abbrev Sized : ℕ → Outcome → Type 0

@@ -13,9 +13,9 @@ use Rattle.frames.specs.Put.{put}
 use Rattle.laws.specs.Choice.{if_then_else_}
 use Rattle.bus.specs.Transfers.{read, write, Outcome, done, fault, stopped}
 use Rattle.bus.specs.Programs.{Prog, ret, ask, bind, _orLeave_, _>>=_}
-use Rattle.bus.specs.declared.raw.Link.{Link}
-use Rattle.bus.specs.declared.raw.RawAnswer.{RawAnswer}
-use Rattle.bus.specs.declared.raw.RawAnswer.the-variants as R
+use Rattle.bus.specs.declared.link.Link.{Link}
+use Rattle.bus.specs.declared.link.RawAnswer.{RawAnswer}
+use Rattle.bus.specs.declared.link.RawAnswer.the-variants as R
 
 -- a 7-bit address, and a device's count of inputs
 abbrev pub sound : Link → Bool

@@ -1,5 +1,5 @@
 // What a call does on the bus is a program over transfers (specs/); here is what it takes and answers.
-pub mod raw;
+pub mod link;
 
 // How far tape and log are used.
 pub struct Cursor {

@@ -20,7 +20,7 @@ use Rattle.sizes.proofs.Sizes.{at-most-15}
 use Rattle.bus.specs.Transfers.{Bus}
 use Rattle.bus.specs.Programs.{Ran, ran, onTape}
 use Rattle.bus.specs.Raw.{asRaw, readBytes}
-use Rattle.bus.specs.declared.raw.RawAnswer.the-variants as R
+use Rattle.bus.specs.declared.link.RawAnswer.the-variants as R
 use Rattle.bus.proofs.Sized.{bytes-size}
 use Rattle.bq769x0.specs.declared.BQ769x0.{BQ769x0}
 use Rattle.laws.specs.Over.{_over_}

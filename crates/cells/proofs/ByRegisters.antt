@@ -19,7 +19,7 @@ use Rattle.wiring.proofs.Undone.{inputAt, every-pack}
 use Rattle.bus.specs.Transfers.{Bus}
 use Rattle.bus.specs.Programs.{Ran, ran, onTape}
 use Rattle.bus.specs.Raw.{Done, asRaw, readBytes}
-use Rattle.bus.specs.declared.raw.RawAnswer.the-variants as R
+use Rattle.bus.specs.declared.link.RawAnswer.the-variants as R
 use Rattle.bus.proofs.Sized.{bytes-size}
 use Rattle.bq769x0.specs.Record.{isSound}
 use Rattle.bq769x0.specs.declared.BQ769x0.{BQ769x0}

@@ -10,8 +10,8 @@ ghost use Rattle.laws.specs.Over.{_over_};
 ghost use Rattle.procedure.specs.Inputs.{converted, readInputs};
 use adc::transfer::AdcTransferFunction;
 use bus::Cursor;
-use bus::raw::Link;
-use bus::raw::RawAnswer;
+use bus::link::Link;
+use bus::link::RawAnswer;
 
 // The first X numbers are the inputs'.
 pub(crate) struct Inputs {

@@ -6,7 +6,7 @@ ghost use Rattle.laws.specs.Over.{_over_};
 ghost use Rattle.procedure.specs.Inputs.{asCells};
 use bq769x0::BQ769x0;
 use bus::Cursor;
-use bus::raw::RawAnswer;
+use bus::link::RawAnswer;
 use refusals::Error;
 use units::MilliVolts;
 

@@ -14,7 +14,7 @@ use crate::inputs;
 use bq769x0::BQ769x0;
 use bq769x0::Readings;
 use bus::Cursor;
-use bus::raw::RawAnswer;
+use bus::link::RawAnswer;
 use refusals::Error;
 use wiring::tables;
 

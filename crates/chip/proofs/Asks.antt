@@ -15,7 +15,7 @@ use Rattle.bus.specs.Transfers.{Transfer, read, write, Outcome}
 use Rattle.bus.specs.Programs.{Prog, ret, ask, bind, proceed, _orLeave_, _>>=_}
 use Rattle.bus.specs.Raw.{Done, refuses, sound, plainRead, askFrame, checkedRead, readRaw, readBytes}
 use Rattle.bus.specs.Raw.{askWrite, send, askBack, writeRaw}
-use Rattle.bus.specs.declared.raw.Link.{Link}
+use Rattle.bus.specs.declared.link.Link.{Link}
 use Rattle.chip.specs.Devices.{Reached, onDevice}
 
 -- every transfer that the program may ask for is a P

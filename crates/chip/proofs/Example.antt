@@ -18,7 +18,7 @@ use Rattle.bus.specs.Transfers.{tapeField}
 use Rattle.bus.specs.Programs.{Prog, bind, proceed, _orLeave_, _>>=_}
 use Rattle.bus.specs.Raw.{Done, refuses, plainly, received, whereRight, checkedly, plainRead, askFrame, checkedRead, readRaw, readBytes}
 use Rattle.bus.specs.Raw.{wrote, askWrite, send, compared, verified, askBack, writeRaw}
-use Rattle.bus.specs.declared.raw.Link.{Link}
+use Rattle.bus.specs.declared.link.Link.{Link}
 use Rattle.chip.specs.Devices.{Reached, onDevice, tapeOf}
 use Rattle.chip.specs.Chip.{fresh, zeros, begun, complete, arrives, stores, agreed, accepted, storedOf, written, acknowledged}
 use Rattle.chip.specs.Chip.{held, shows, answers, carried, respondCut}

@@ -14,7 +14,7 @@ use Rattle.laws.specs.Choice.{if_then_else_}
 use Rattle.bus.specs.Transfers.{Transfer, write, read, Outcome, done, fault, stopped, logField, tapeField, wanted}
 use Rattle.bus.specs.Programs.{Prog, ret, ask}
 use Rattle.bus.specs.Raw.{readBytes, writeRaw}
-use Rattle.bus.specs.declared.raw.Link.{Link}
+use Rattle.bus.specs.declared.link.Link.{Link}
 use Rattle.bus.specs.Decoders.{transfersIn}
 use Rattle.bus.proofs.Decoders.{Short, Fitting, AllShort, transfers-logged}
 use Rattle.bus.proofs.Framed.{Made, logged, taken}

@@ -16,7 +16,7 @@ use Rattle.bus.specs.Fields.{field}
 use Rattle.bus.specs.Transfers.{Transfer, read, write, Outcome, logField}
 use Rattle.bus.specs.Programs.{Prog, ret, ask, bind, proceed, _orLeave_, _>>=_}
 use Rattle.bus.specs.Raw.{sound, plainRead, askFrame, checkedRead, readRaw, readBytes, askWrite, send, askBack, writeRaw}
-use Rattle.bus.specs.declared.raw.Link.{Link}
+use Rattle.bus.specs.declared.link.Link.{Link}
 use Rattle.chip.specs.Devices.{onDevice, logOf}
 use Rattle.chip.specs.OnChip.{Wired, onWire, onChip}
 

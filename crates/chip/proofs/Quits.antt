@@ -13,7 +13,7 @@ use Rattle.bus.specs.Transfers.{Transfer, Outcome, fault}
 use Rattle.bus.specs.Programs.{Prog, ret, ask, bind, proceed, _orLeave_, _>>=_}
 use Rattle.bus.specs.Raw.{Done, Read, gives, refuses, sound, plainly, whereRight, checkedly, plainRead, askFrame, checkedRead, readRaw}
 use Rattle.bus.specs.Raw.{readBytes, wrote, askWrite, send, verified, askBack, writeRaw}
-use Rattle.bus.specs.declared.raw.Link.{Link}
+use Rattle.bus.specs.declared.link.Link.{Link}
 
 -- over, with an answer of which Off holds
 pub data Over {A : Type 0} (Off : A → Type 0) : Prog A → Type 0 where

@@ -19,7 +19,7 @@ use Rattle.bus.specs.Transfers.{Transfer, read, write, Outcome, done}
 use Rattle.bus.specs.Programs.{Prog, ret, ask}
 use Rattle.bus.specs.Raw.{sound, Done, Read, gives, refuses, plainly, received, whereRight, checkedly, plainRead, askFrame, checkedRead}
 use Rattle.bus.specs.Raw.{readRaw, wrote, askWrite, send, compared, verified, askBack, writeRaw}
-use Rattle.bus.specs.declared.raw.Link.{Link}
+use Rattle.bus.specs.declared.link.Link.{Link}
 use Rattle.chip.specs.Devices.{Reached, reached, onDevice}
 use Rattle.chip.specs.Chip.{withRegs, stores, held, respondCut}
 use Rattle.chip.specs.OnChip.{Matches, Wired, next, onWire, onChip}

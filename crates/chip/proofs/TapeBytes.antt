@@ -18,7 +18,7 @@ use Rattle.bus.specs.Transfers.{Transfer, Outcome, done, fault, stopped, tapeFi
 use Rattle.bus.specs.Programs.{Prog, ret, ask, bind, proceed, _orLeave_, _>>=_}
 use Rattle.bus.specs.Raw.{Done, Read, gives, refuses, sound, plainly, received, whereRight, checkedly, plainRead, askFrame, checkedRead}
 use Rattle.bus.specs.Raw.{readRaw, readBytes, wrote, askWrite, send, verified, askBack, writeRaw}
-use Rattle.bus.specs.declared.raw.Link.{Link}
+use Rattle.bus.specs.declared.link.Link.{Link}
 use Rattle.chip.specs.Devices.{tapeOf}
 use Rattle.chip.specs.Chip.{delivered}
 use Rattle.chip.specs.OnChip.{Wired, onWire}

@@ -9,7 +9,7 @@ use lib.ListN.{length, replicate, length-replicate}
 use Rattle.refusals.specs.Refusal.{Answer, value, answering}
 use Rattle.frames.specs.Put.{put}
 use Rattle.bus.specs.Raw.{sound, Done, Read, gives, readRaw, readBytes, writeRaw}
-use Rattle.bus.specs.declared.raw.Link.{Link}
+use Rattle.bus.specs.declared.link.Link.{Link}
 use Rattle.chip.specs.Devices.{Reached, reached, onDevice}
 use Rattle.chip.specs.Chip.{withRegs, held}
 use Rattle.chip.specs.OnChip.{Matches, Wired, uncut, onWire, onChip}

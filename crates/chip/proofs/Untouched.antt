@@ -16,7 +16,7 @@ use Rattle.laws.specs.Choice.{if_then_else_}
 use Rattle.bus.specs.Transfers.{Transfer, write, read, fault}
 use Rattle.bus.specs.Programs.{Prog}
 use Rattle.bus.specs.Raw.{readBytes, writeRaw}
-use Rattle.bus.specs.declared.raw.Link.{Link}
+use Rattle.bus.specs.declared.link.Link.{Link}
 use Rattle.chip.specs.Devices.{reached}
 use Rattle.chip.specs.Chip.{begun, arrives, stores, agreed, accepted, storedOf, written, answers, carried, respondCut}
 use Rattle.chip.specs.OnChip.{Matches, Wired, onWire, onChip}

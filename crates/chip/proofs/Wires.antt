@@ -14,7 +14,7 @@ use Rattle.laws.specs.Choice.{if_then_else_}
 use Rattle.bus.specs.Transfers.{fault}
 use Rattle.bus.specs.Programs.{Prog, ret, _orLeave_, _>>=_}
 use Rattle.bus.specs.Raw.{Done, Read, sound, gives, refuses, plainly, whereRight, checkedly, readRaw, readBytes, writeRaw}
-use Rattle.bus.specs.declared.raw.Link.{Link}
+use Rattle.bus.specs.declared.link.Link.{Link}
 use Rattle.chip.specs.Devices.{Reached, reached, onDevice}
 use Rattle.chip.specs.Chip.{withRegs, held}
 use Rattle.chip.specs.OnChip.{Matches, Wired, next, onWire, onChip}

@@ -7,7 +7,7 @@ use Prim.Native.Nat.{ℕ, suc}
 use lib.ListN.{length}
 use Rattle.bus.specs.Transfers.{Transfer, Outcome}
 use Rattle.bus.specs.Programs.{Prog}
-use Rattle.bus.specs.declared.raw.Link.{Link}
+use Rattle.bus.specs.declared.link.Link.{Link}
 use Rattle.chip.specs.Devices.{Reached, reached, onDevice}
 use Rattle.chip.specs.Chip.{respond, respondCut}
 use Rattle.chip.specs.declared.Chip.{Chip}

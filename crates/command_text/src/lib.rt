@@ -1,8 +1,8 @@
 // The register commands, and registers read and written as they are: each made by its field, and printed.
 use bq769x0::BQ769x0;
 use bus::Cursor;
-use bus::raw::Raw;
-use bus::raw::RawAnswer;
+use bus::link::Raw;
+use bus::link::RawAnswer;
 use commands::balancing;
 use commands::control;
 use commands::control::SourceAnswer;

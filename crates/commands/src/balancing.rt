@@ -7,7 +7,7 @@ use crate::register;
 use crate::register::ByteRead;
 use bq769x0::BQ769x0;
 use bus::Cursor;
-use bus::raw::Raw;
+use bus::link::Raw;
 
 pub fn enable_balancing(device: BQ769x0, cells: u8, tape: &[u8], log: &mut [u8], at: Cursor) -> Raw
     ensures { λ r. ⌜ does (enableBalancing device cells) tape log at (asRaw (r .answer)) (r .at) ⌝ }

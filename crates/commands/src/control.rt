@@ -9,7 +9,7 @@ use crate::register;
 use crate::register::ByteAnswer;
 use bq769x0::BQ769x0;
 use bus::Cursor;
-use bus::raw::Raw;
+use bus::link::Raw;
 use refusals::Error;
 
 pub enum TemperatureSource {

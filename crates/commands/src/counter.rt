@@ -6,7 +6,7 @@ ghost use Rattle.commands.specs.Commands.{modeBits, coulombCounterMode};
 use crate::register;
 use bq769x0::BQ769x0;
 use bus::Cursor;
-use bus::raw::Raw;
+use bus::link::Raw;
 
 pub enum CoulombCounterMode {
     Disabled,

@@ -8,8 +8,8 @@ ghost use Rattle.bits.specs.Bits.{putting};
 ghost use Rattle.commands.specs.Registers.{readRegister, changing};
 use bq769x0::BQ769x0;
 use bus::Cursor;
-use bus::raw::Raw;
-use bus::raw::RawAnswer;
+use bus::link::Raw;
+use bus::link::RawAnswer;
 use refusals::Error;
 
 pub enum ByteAnswer {

@@ -4,8 +4,8 @@ ghost use Rattle.bus.specs.Raw.{asRaw};
 ghost use Rattle.commands.specs.Commands.{shipEnter};
 use bq769x0::BQ769x0;
 use bus::Cursor;
-use bus::raw::Raw;
-use bus::raw::RawAnswer;
+use bus::link::Raw;
+use bus::link::RawAnswer;
 
 pub fn ship_enter(device: BQ769x0, tape: &[u8], log: &mut [u8], at: Cursor) -> Raw
     ensures { λ r. ⌜ does (shipEnter device) tape log at (asRaw (r .answer)) (r .at) ⌝ }

@@ -11,8 +11,8 @@ use crate::register;
 use crate::register::ByteAnswer;
 use bq769x0::BQ769x0;
 use bus::Cursor;
-use bus::raw::Raw;
-use bus::raw::RawAnswer;
+use bus::link::Raw;
+use bus::link::RawAnswer;
 use refusals::Error;
 
 pub enum FlagAnswer {

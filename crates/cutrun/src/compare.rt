@@ -1,7 +1,7 @@
 // Whether two inits answered the same and left the same record and the same registers.
 use crate::bench::Outcome;
 use bq769x0::BQ769x0;
-use bus::raw::Link;
+use bus::link::Link;
 use chip::Chip;
 use plan::InitAnswer;
 use plan::answer::InitNumbers;

@@ -7,7 +7,7 @@ ghost use Rattle.bus.specs.Raw.{asRaw};
 ghost use Rattle.plan.specs.Plan.{asInit, asValues};
 ghost use Rattle.layout.specs.Cells.{hasRoom, cellOf};
 ghost use Rattle.firmware.specs.JobCells.{listed, storing};
-use bus::raw::RawAnswer;
+use bus::link::RawAnswer;
 use cells::Cells;
 use layout::list::put_cells;
 use plan::CalculatedValues;

@@ -8,7 +8,7 @@ use Rattle.plan.specs.Plan.{Values, asInit}
 use Rattle.bus.specs.Transfers.{Bus}
 use Rattle.bus.specs.Programs.{Prog, ran, onTape}
 use Rattle.bus.specs.Raw.{asRaw}
-use Rattle.bus.specs.declared.raw.Raw.{Raw}
+use Rattle.bus.specs.declared.link.Raw.{Raw}
 use Rattle.bq769x0.specs.Record.{Left, leaves}
 use Rattle.bq769x0.specs.declared.BQ769x0.{BQ769x0}
 use Rattle.setup.specs.declared.left.Init.{Init}

@@ -6,9 +6,9 @@ use mir.Val.{Val}
 use denote.Laws.{Is}
 use denote.Steps.{only}
 use denote.Struct.Laws as LL
-use Rattle.bus.specs.declared.raw.Raw.{Raw}
-use Rattle.bus.proofs.raw.Raw as R
-use Rattle.bus.proofs.raw.Raw.Laws as R′
+use Rattle.bus.specs.declared.link.Raw.{Raw}
+use Rattle.bus.proofs.link.Raw as R
+use Rattle.bus.proofs.link.Raw.Laws as R′
 use Rattle.bq769x0.proofs.BQ769x0 as B
 use Rattle.cells.specs.declared.Cells.{Cells}
 use Rattle.cells.proofs.Cells as O

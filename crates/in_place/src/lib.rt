@@ -10,7 +10,7 @@ ghost use Rattle.procedure.specs.Cells.{filled, cellVoltages};
 ghost use Rattle.procedure.specs.Wired.{shown, wired};
 use bq769x0::BQ769x0;
 use bus::Cursor;
-use bus::raw::Raw;
+use bus::link::Raw;
 use cells::crate_list;
 use cells::wired;
 use plan::Config;

@@ -1,8 +1,8 @@
 // The lines of one call: its transfers, and what it answered.
 ghost use mathlib.Core.Path.{_≡_};
 use bus::Cursor;
-use bus::raw::Raw;
-use bus::raw::RawAnswer;
+use bus::link::Raw;
+use bus::link::RawAnswer;
 use plan::InitAnswer;
 use plan::answer::InitNumbers;
 use refusals::Error;

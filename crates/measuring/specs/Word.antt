@@ -6,7 +6,7 @@ use Rattle.numbers.specs.Numbers.{word}
 use Rattle.refusals.specs.Refusal.{Answer, value, refused, asRefusal}
 use Rattle.bus.specs.Programs.{Prog, ret, _orLeave_, _>>=_}
 use Rattle.bus.specs.Raw.{readBytes}
-use Rattle.bus.specs.declared.raw.Link.{Link}
+use Rattle.bus.specs.declared.link.Link.{Link}
 use Rattle.measuring.specs.declared.word.WordAnswer.{WordAnswer}
 use Rattle.measuring.specs.declared.word.WordAnswer.the-variants as W
 

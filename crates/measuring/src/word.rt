@@ -3,7 +3,7 @@ ghost use Rattle.bus.specs.Lent.{does};
 ghost use Rattle.measuring.specs.Word.{asWord, readWord};
 use bq769x0::BQ769x0;
 use bus::Cursor;
-use bus::raw::RawAnswer;
+use bus::link::RawAnswer;
 use refusals::Error;
 
 pub(crate) enum WordAnswer {

@@ -10,7 +10,7 @@ use Rattle.adc.specs.declared.transfer.AdcTransferFunction.{AdcTransferFunction
 use Rattle.units.specs.declared.MilliVolts.{MilliVolts}
 use Rattle.bus.specs.Programs.{Prog, ret, _orLeave_, _>>=_}
 use Rattle.bus.specs.Raw.{readBytes}
-use Rattle.bus.specs.declared.raw.Link.{Link}
+use Rattle.bus.specs.declared.link.Link.{Link}
 
 -- each two bytes as one reading
 abbrev pub readings : List ℕ → List ℕ

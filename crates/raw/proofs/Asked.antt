@@ -18,7 +18,7 @@ use Rattle.bus.specs.Programs.{ret, ask, ran, onTape}
 use Rattle.bus.specs.Raw.{Done, refuses, Read, gives, plainly, received, whereRight, checkedly}
 use Rattle.bus.specs.Raw.{plainRead, askFrame, wrote, askWrite, compared, verified, askBack}
 use Rattle.bus.specs.declared.Cursor.{Cursor}
-use Rattle.bus.specs.declared.raw.Link.{Link}
+use Rattle.bus.specs.declared.link.Link.{Link}
 use Rattle.raw.specs.Replies.{outcomeOf, answerTo, taken, storedIn, WentBy, ReadBy, WrittenBy}
 use Rattle.raw.specs.declared.transfer.Moved.{Moved}
 use Rattle.raw.specs.declared.transfer.Reply.{Reply}

@@ -8,9 +8,9 @@ ghost use Rattle.bus.specs.Raw.{askWrite, send, compared, askBack, writeRaw};
 ghost use Rattle.raw.specs.Replies.{answerTo, taken};
 use crate::transfer::Reply;
 use bus::Cursor;
-use bus::raw::Link;
-use bus::raw::Raw;
-use bus::raw::RawAnswer;
+use bus::link::Link;
+use bus::link::Raw;
+use bus::link::RawAnswer;
 use refusals::Error;
 
 mod transfer;

@@ -1,7 +1,7 @@
 // The cells by the crate's list.
 use crate::size;
 use crate::state::State;
-use bus::raw::RawAnswer;
+use bus::link::RawAnswer;
 use cells::crate_list;
 
 // The lent list is as long as the value says.

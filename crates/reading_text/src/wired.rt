@@ -1,7 +1,7 @@
 // The cells by the wiring: the reading, and which cell sits on an input.
 use crate::size;
 use crate::state::State;
-use bus::raw::RawAnswer;
+use bus::link::RawAnswer;
 use cells::wired;
 use wiring::questions;
 use wiring::questions::CellAnswer;

@@ -17,7 +17,7 @@ use Rattle.plan.specs.declared.Config.{Config}
 use Rattle.laws.specs.Choice.{if_then_else_}
 use Rattle.bus.specs.Programs.{Prog, ret}
 use Rattle.bus.specs.Raw.{Done, sound, readBytes, writeRaw}
-use Rattle.bus.specs.declared.raw.Link.{Link}
+use Rattle.bus.specs.declared.link.Link.{Link}
 use Rattle.bq769x0.specs.Record.{Left, leaves, leaving, accepts, isSound, withCalibration}
 use Rattle.bq769x0.specs.Registers.{soundly}
 use Rattle.procedure.specs.Calibrate.{calibrated, calibrate}

@@ -18,7 +18,7 @@ use Rattle.plan.specs.Plan.{Planned, planFor}
 use Rattle.plan.specs.declared.Config.{Config}
 use Rattle.plan.proofs.Accepted.{first}
 use Rattle.plan.proofs.Six.{plan-six}
-use Rattle.bus.specs.declared.raw.Link.{Link}
+use Rattle.bus.specs.declared.link.Link.{Link}
 use Rattle.bq769x0.specs.Record.{accepts, withCalibration, withShunt}
 use Rattle.bq769x0.specs.declared.BQ769x0.{BQ769x0}
 use Rattle.chip.specs.Chip.{withRegs}

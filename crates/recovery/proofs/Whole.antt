@@ -17,7 +17,7 @@ use Rattle.plan.specs.declared.Config.{Config}
 use Rattle.plan.proofs.Six.{plan-six}
 use Rattle.bus.specs.Programs.{Prog, ret, _orLeave_, _>>=_}
 use Rattle.bus.specs.Raw.{Done, sound, readBytes, writeRaw}
-use Rattle.bus.specs.declared.raw.Link.{Link}
+use Rattle.bus.specs.declared.link.Link.{Link}
 use Rattle.bq769x0.specs.Record.{Left, leaves, leaving, isSound, withCalibration}
 use Rattle.bq769x0.specs.Registers.{soundly}
 use Rattle.procedure.specs.Calibrate.{calibrate}

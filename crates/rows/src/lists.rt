@@ -3,7 +3,7 @@ use crate::print;
 use adc::transfer::AdcTransferFunction;
 use bq769x0::BQ769x0;
 use bus::Cursor;
-use bus::raw::Link;
+use bus::link::Link;
 use cells::crate_list;
 use units::MicroOhms;
 

@@ -7,7 +7,7 @@ use crate::left::Calibrated;
 use adc::transfer::AdcTransferFunction;
 use bq769x0::BQ769x0;
 use bus::Cursor;
-use bus::raw::RawAnswer;
+use bus::link::RawAnswer;
 use refusals::Error;
 
 pub fn read_adc_characteristics(

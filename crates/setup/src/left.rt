@@ -1,7 +1,7 @@
 // What setting up answers, the record that it leaves, and how far tape and log are used then.
 use bq769x0::BQ769x0;
 use bus::Cursor;
-use bus::raw::RawAnswer;
+use bus::link::RawAnswer;
 use plan::InitAnswer;
 
 pub struct Calibrated {

@@ -7,7 +7,7 @@ ghost use Rattle.procedure.specs.Init.{startCounter, protect};
 use crate::left::Init;
 use bq769x0::BQ769x0;
 use bus::Cursor;
-use bus::raw::RawAnswer;
+use bus::link::RawAnswer;
 use plan::CalculatedValues;
 use plan::Config;
 use plan::InitAnswer;

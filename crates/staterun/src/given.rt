@@ -7,7 +7,7 @@ use adc::transfer::AdcTransferFunction;
 use bq769x0::BQ769x0;
 use bq769x0::Readings;
 use bus::Cursor;
-use bus::raw::Link;
+use bus::link::Link;
 use calls::HeadAnswer;
 use calls::Heading;
 use job::Device;

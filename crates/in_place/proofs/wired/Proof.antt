@@ -39,9 +39,9 @@ use Rattle.bus.specs.Programs.{ran, onTape}
 use Rattle.bus.specs.Raw.{asRaw}
 use Rattle.bus.specs.Transfers.{busOf}
 use Rattle.bus.specs.declared.Cursor.{Cursor}
-use Rattle.bus.proofs.raw.RawAnswer.Laws as I′
-use Rattle.bus.proofs.raw.Raw as R
-use Rattle.bus.proofs.raw.Raw.Laws as R′
+use Rattle.bus.proofs.link.RawAnswer.Laws as I′
+use Rattle.bus.proofs.link.Raw as R
+use Rattle.bus.proofs.link.Raw.Laws as R′
 use Rattle.bus.proofs.Cursor as P
 use Rattle.bus.proofs.Cursor.Laws as P′
 use Rattle.bq769x0.specs.declared.BQ769x0.{BQ769x0}

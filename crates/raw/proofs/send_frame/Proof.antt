@@ -6,7 +6,7 @@ use lib.ListN.{length, take}
 use lib.Seq.{length-take-le}
 use denote.Ref.{now}
 use Rattle.frames.specs.Frames.{writeFrame}
-use Rattle.bus.specs.declared.raw.Link.{Link}
+use Rattle.bus.specs.declared.link.Link.{Link}
 use Rattle.raw.proofs.Asked.{write-sent, frame-room, frame-sent}
 use borrow.Author.Needs.{needs}
 use Rattle.raw.proofs.send_frame.Statement.{statement}

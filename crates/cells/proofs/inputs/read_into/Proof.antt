@@ -11,7 +11,7 @@ use Rattle.adc.specs.declared.transfer.AdcTransferFunction.{AdcTransferFunction
 use Rattle.bus.specs.Transfers.{Bus, busOf}
 use Rattle.bus.specs.Programs.{Ran, onTape}
 use Rattle.bus.specs.Raw.{Done, gives, asRaw, readRaw}
-use Rattle.bus.specs.declared.raw.Link.{Link}
+use Rattle.bus.specs.declared.link.Link.{Link}
 use Rattle.bus.proofs.Calls.{read-on, read-off}
 use Rattle.laws.specs.Over.{_over_}
 use Rattle.procedure.specs.Inputs.{converted, readInputs}

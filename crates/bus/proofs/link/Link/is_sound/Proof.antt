@@ -1,8 +1,8 @@
--- `bus::raw::Link::is_sound` meets its contract. Assumes nothing.
+-- `bus::link::Link::is_sound` meets its contract. Assumes nothing.
 use borrow.Author.Tests.{le-leb, lt-leb}
 use borrow.Author.Needs.{needs}
-use Rattle.bus.proofs.raw.Link.is_sound.Statement.{statement}
-use Rattle.bus.proofs.raw.Link.is_sound.Tie as tie
+use Rattle.bus.proofs.link.Link.is_sound.Statement.{statement}
+use Rattle.bus.proofs.link.Link.is_sound.Tie as tie
 
 returns : tie.Need-returns
 returns c = simp (lt-leb _ _ (c .if1 .taken))

@@ -1,7 +1,7 @@
--- `bus::raw::RawAnswer::refusal` meets its contract. Assumes nothing.
+-- `bus::link::RawAnswer::refusal` meets its contract. Assumes nothing.
 use borrow.Author.Needs.{needs}
-use Rattle.bus.proofs.raw.RawAnswer.refusal.Statement.{statement}
-use Rattle.bus.proofs.raw.RawAnswer.refusal.Tie as tie
+use Rattle.bus.proofs.link.RawAnswer.refusal.Statement.{statement}
+use Rattle.bus.proofs.link.RawAnswer.refusal.Tie as tie
 
 enum-told : tie.Need-enum-told
 enum-told c = search needs
