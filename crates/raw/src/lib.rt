@@ -13,6 +13,7 @@ use bus::link::Raw;
 use bus::link::RawAnswer;
 use refusals::Error;
 
+pub mod short;
 mod transfer;
 
 // A fault is number 2.
