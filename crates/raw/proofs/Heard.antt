@@ -109,6 +109,16 @@ module _ (want at : ℕ) (l : List ℕ) where
       subst (λ (rest : List ℕ). Heard want rest (says want rest) (judged want (getD l at 0) said-len)) (sym (head h))
       (says-whole want (getD l at 0) _ _ (drop (at + 3) l) (simp length-drop (omega arith)))
 
+  -- a field that is whole, and says that all was done
+  pub at-done : (len : ℕ) → len ≡ said-len → at ≤ length l → want + 3 ≤ length l - at
+      → eqb (getD l at 0) 0x01 && eqb len want ≡ true
+      → Heard want (drop at l) (says want (drop at l)) (Made false want)
+  at-done len is h k e =
+      let all : len ≡ want = eqb→eq len want (both-right (eqb (getD l at 0) 0x01) (eqb len want) (subst T (sym e) tt)) in
+      let told : judged want (getD l at 0) len ≡ Made false want = rw e (ap (Made false) all) in
+      subst (Heard want (drop at l) (says want (drop at l))) (ap (judged want (getD l at 0)) (sym is) ∙ told)
+      (at-whole (omega arith) (omega (arith, is)))
+
 -- a reply that stops, from the number that the tape's rest, or the log's room, gives
 pub stops : (want : ℕ) (rest : List ℕ) (answer : Outcome) (e : Error) → answer ≡ stopped (asRefusal e)
     → Heard want rest answer (Stopped e)

@@ -1,7 +1,7 @@
 -- A transfer that was made, or not, from what the tape said to it: its outcome, and tape and log after it.
 -- Assumes nothing.
 use mathlib.Core.Path.{_≡_, refl, sym, ap, subst, _∙_}
-use mathlib.Core.Bool.{Bool, true, false}
+use mathlib.Core.Bool.{Bool, true, false, _&&_}
 use Prim.Native.Nat.{ℕ, suc, _+_, _-_, _≤_}
 use mathlib.Core.List.{List, []}
 use native.Mathlib.Omega.{arith}
@@ -16,7 +16,7 @@ use Rattle.frames.proofs.Put.{take-front}
 use Rattle.laws.specs.Choice.{if_then_else_}
 use Rattle.bus.specs.Fields.{field}
 use Rattle.bus.specs.Transfers.{Transfer, Outcome, stopped, Bus, busOf}
-use Rattle.bus.specs.Transfers.{logField, tapeField, wanted, moved, after, answered, outcome}
+use Rattle.bus.specs.Transfers.{logField, tapeField, wanted, moved, after, says, answered, outcome}
 use Rattle.raw.specs.Replies.{delivered, outcomeOf, Within, Heard, storedIn, WentBy, ReadBy, WrittenBy}
 use Rattle.raw.proofs.Heard.{few, fitting}
 use Rattle.raw.specs.declared.transfer.Reply.{Reply}
@@ -39,6 +39,17 @@ stored-made buf v false = refl
 -- a reply that says what becomes of this transfer on this bus
 abbrev pub Replied : Transfer → Bus → Reply → Type 0
 Replied t b r = Heard (wanted t) (drop (b .at .tape) (b .tape)) (outcome t b) r
+
+-- so where the log has room and the tape says that all was done
+pub well : (t : Transfer) (b : Bus) (room done : Bool)
+    → room ≡ leb (b .at .log + length (logField t)) (length (b .log))
+    → (done ≡ true → Heard (wanted t) (drop (b .at .tape) (b .tape))
+    (says (wanted t) (drop (b .at .tape) (b .tape))) (Made false (wanted t)))
+    → room && done ≡ true → Replied t b (Made false (wanted t))
+unfolding outcome answered
+well t b true true r d e = rw (sym r) (d refl)
+well t b true false r d e = absurd (subst T (sym e) tt)
+well t b false done r d e = absurd (subst T (sym e) tt)
 
 module _ (t : Transfer) (b : Bus) where
   abbrev from : ℕ

@@ -63,6 +63,21 @@ pub record ReadBy (t : Transfer) (b : Bus) (buf : List ℕ) (m : Moved) (buf′ 
 pub record WrittenBy (t : Transfer) (b : Bus) (m : Moved) (log′ : List ℕ) : Type 0 where
   pub moved : WentBy t b (outcomeOf (m .reply) []) log′ (m .at)
 
+-- so many bytes further on tape and log
+abbrev pub onward : Cursor → ℕ → ℕ → Cursor
+onward at tape log = record { tape = at .tape + tape; log = at .log + log }
+
+-- a read by the short way: done, with all that it wants, or nothing touched
+abbrev pub GotBy : Transfer → Bus → List ℕ → Bool → List ℕ → List ℕ → Type 0
+GotBy t b buf true buf′ log′ =
+    ReadBy t b buf (record { reply = Made false (length buf); at = onward (b .at) (3 + length buf) 7 }) buf′ log′
+GotBy t b buf false buf′ log′ = (buf′ ≡ buf) × (log′ ≡ b .log)
+
+-- so of a write of so many bytes
+abbrev pub SentBy : Transfer → Bus → ℕ → Bool → List ℕ → Type 0
+SentBy t b n true log′ = WrittenBy t b (record { reply = Made false 0; at = onward (b .at) 3 (4 + n) }) log′
+SentBy t b n false log′ = log′ ≡ b .log
+
 -- a reply as an answer: a fault is 2
 abbrev pub answerTo : Reply → Answer Done
 answerTo (Made false n) = value tt

@@ -6,7 +6,7 @@ ghost use lib.Dec.{leb};
 ghost use lib.ListN.{length, drop};
 ghost use Rattle.frames.specs.Put.{put};
 ghost use Rattle.bus.specs.Fields.{field};
-ghost use Rattle.bus.specs.Transfers.{read, write, says, answered};
+ghost use Rattle.bus.specs.Transfers.{read, write, logField, says, answered};
 ghost use Rattle.bus.specs.Lent.{lentBus};
 ghost use Rattle.raw.specs.Replies.{judged, Heard, ReadBy, WrittenBy};
 use bus::Cursor;
@@ -58,7 +58,7 @@ fn hear(tape: &[u8], at: usize, want: usize) -> Reply
     judge(want, tape[at], len)
 }
 
-fn has_room(size: usize, used: usize, need: usize) -> bool
+pub(crate) fn has_room(size: usize, used: usize, need: usize) -> bool
     ensures { λ r. ⌜ r ≡ leb (used + need) size ⌝ }
 {
     if size < used {
@@ -96,7 +96,7 @@ fn copy_in(src: &[u8], dst: &mut [u8], at: usize)
 }
 
 // A field whose value is `first` and then `rest`, into the log at `at`.
-fn put_field(log: &mut [u8], at: usize, tag: u8, first: u8, rest: &[u8])
+pub(crate) fn put_field(log: &mut [u8], at: usize, tag: u8, first: u8, rest: &[u8])
     requires { ⌜ at + (4 + length (now rest)) ≤ length (now log) ⌝ }
     ensures { λ _. ⌜ now (log .exit) ≡ put (now (log .entry)) at (field tag (first ∷ now (rest .entry))) ⌝ }
 {
@@ -106,6 +106,27 @@ fn put_field(log: &mut [u8], at: usize, tag: u8, first: u8, rest: &[u8])
     log[at + 2] = (n % 256) as u8;
     log[at + 3] = first;
     copy_in(rest, log, at + 4);
+}
+
+// The field of a read, into the log at `at`.
+pub(crate) fn log_read(log: &mut [u8], at: usize, address: u8, reg: u8, count: usize)
+    requires { ⌜ at + 7 ≤ length (now log) ⌝ }
+    ensures { λ _. ⌜ now (log .exit) ≡ put (now (log .entry)) at (logField (read address reg count)) ⌝ }
+{
+    let rest = [reg, (count / 256 % 256) as u8, (count % 256) as u8];
+    put_field(log, at, 0x12, address, &rest);
+}
+
+// All of src, at most 256 bytes, over the first of dst. By way of an array of its own the compiler makes one move of memory of it:
+// copied straight, src and dst might overlap.
+pub(crate) fn deliver(src: &[u8], dst: &mut [u8])
+    requires { ⌜ (length (now src) ≤ 256) × (length (now src) ≤ length (now dst)) ⌝ }
+    ensures { λ _. ⌜ now (dst .exit) ≡ put (now (dst .entry)) 0 (now (src .entry)) ⌝ }
+{
+    let n = src.len();
+    let mut held = [0u8; 256];
+    copy_in(src, &mut held, 0);
+    copy_in(&held[..n], dst, 0);
 }
 
 // i2c.write_read(address, &[reg], buf)
@@ -127,8 +148,7 @@ pub(crate) fn transfer_read(
     let Reply::Made(_, n) = reply else {
         return Moved { reply, at };
     };
-    let rest = [reg, (count / 256 % 256) as u8, (count % 256) as u8];
-    put_field(log, used, 0x12, address, &rest);
+    log_read(log, used, address, reg, count);
     let start = from + 3;
     let end = start + n;
     copy_in(&tape[start..end], buf, 0);

@@ -27,11 +27,11 @@ module _ (s : tie.Start) where
 abbrev at-start : tie.After-answer → tie.Start
 at-start c = c .before .before .before .before
 
-abbrev at-reply : tie.After-rest → tie.After-reply
-at-reply c = c .before .before .before
+abbrev at-reply : tie.After-log-read-arg → tie.After-reply
+at-reply c = c .before .before
 
-abbrev at-rest : tie.After-slice-known3 → tie.After-rest
-at-rest c = c .before .before .before
+abbrev at-field : tie.After-slice-known3 → tie.After-log-read-arg
+at-field c = c .before .before .before
 
 abbrev at-logged : tie.After-copy-in → tie.After-slice-known3
 at-logged c = c .before .before .before
@@ -69,7 +69,7 @@ module _ (c : tie.After-reply) where
 -- ---- after the copy: the bytes delivered stand in the buffer
 module _ (c : tie.After-copy-in) where
   abbrev reply : tie.After-reply
-  reply = at-reply (at-rest (at-logged c))
+  reply = at-reply (at-field (at-logged c))
 
   abbrev s : tie.Start
   s = start reply
@@ -93,23 +93,14 @@ returns c =
     let told = c .enum-told .given .1 in
     rw told (read-stopped _ _ _ _ (subst (Heard _ _ _) told (heard (c .before .before))) _)
 
-cast-t17 : tie.Need-cast-t17
-cast-t17 c = search needs
-
-cast-t19 : tie.Need-cast-t19
-cast-t19 c = search needs
-
-slice-aggregate-put-field : tie.Need-slice-aggregate-put-field
-slice-aggregate-put-field c = search needs
-
-put-field-requires : tie.Need-put-field-requires
-put-field-requires c κs = omega (arith, log-room (at-reply c))
+log-read-requires : tie.Need-log-read-requires
+log-read-requires c κs = log-room (at-reply c)
 
 add-start : tie.Need-add-start
-add-start c = omega (arith, tape-room (at-reply (at-rest c)))
+add-start c = omega (arith, tape-room (at-reply (at-field c)))
 
 add-end : tie.Need-add-end
-add-end c = omega (arith, tape-room (at-reply (at-rest c)))
+add-end c = omega (arith, tape-room (at-reply (at-field c)))
 
 sub-copy-in : tie.Need-sub-copy-in
 sub-copy-in c = search needs
@@ -118,13 +109,13 @@ part-copy-in-start : tie.Need-part-copy-in-start
 part-copy-in-start c = search needs
 
 part-copy-in-end : tie.Need-part-copy-in-end
-part-copy-in-end c = omega (arith, tape-room (at-reply (at-rest c)))
+part-copy-in-end c = omega (arith, tape-room (at-reply (at-field c)))
 
 copy-in-requires : tie.Need-copy-in-requires
-copy-in-requires c κs = simp length-take (omega (arith, buf-room (at-reply (at-rest (c .before .before)))))
+copy-in-requires c κs = simp length-take (omega (arith, buf-room (at-reply (at-field (c .before .before)))))
 
-add-t16 : tie.Need-add-t16
-add-t16 c = omega (arith, log-room (reply (at-copied c)))
+add-t14 : tie.Need-add-t14
+add-t14 c = omega (arith, log-room (reply (at-copied c)))
 
 same-length : tie.Need-same-length
 same-length c = search needs
@@ -136,7 +127,7 @@ returns-2 : tie.Need-returns-2
 unfolding logField field wanted
 returns-2 c =
     read-by _ _ _ _ (made (reply (at-copied c))) _ _ refl (copied (at-copied c))
-    _ (at-logged (at-copied c) .before .before .put-field .ensures) _ refl
+    _ (at-logged (at-copied c) .before .before .log-read .ensures) _ refl
 
 pub transfer-read-spec : {M : Type 1} → statement M
 transfer-read-spec =
@@ -146,17 +137,14 @@ transfer-read-spec =
     enum-known-reply
     enum-told
     returns
-    cast-t17
-    cast-t19
-    slice-aggregate-put-field
-    put-field-requires
+    log-read-requires
     add-start
     add-end
     sub-copy-in
     part-copy-in-start
     part-copy-in-end
     copy-in-requires
-    add-t16
+    add-t14
     same-length
     same-length-2
     returns-2)

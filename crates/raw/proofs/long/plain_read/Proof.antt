@@ -1,10 +1,10 @@
--- `raw::plain_read` meets its contract. Assumes nothing.
+-- `raw::long::plain_read` meets its contract. Assumes nothing.
 use native.Mathlib.Omega.{arith}
 use Rattle.bus.proofs.Raws.{plain-out}
 use Rattle.raw.proofs.Asked.{plain-read}
 use borrow.Author.Needs.{needs}
-use Rattle.raw.proofs.plain_read.Statement.{statement}
-use Rattle.raw.proofs.plain_read.Tie as tie
+use Rattle.raw.proofs.long.plain_read.Statement.{statement}
+use Rattle.raw.proofs.long.plain_read.Tie as tie
 
 abbrev at-read : tie.After-slice-known4 → tie.After-transfer-read
 at-read c = c .before .before .before .before

@@ -1,12 +1,12 @@
--- `raw::read_raw` meets its contract. Assumes nothing.
+-- `raw::long::read_long` meets its contract. Assumes nothing.
 use mathlib.Core.Path.{_≡_, sym, _∙_}
 use mathlib.Core.Bool.{true}
 use borrow.Author.Tests.{not-true, not-false}
 use Rattle.bus.specs.Raw.{sound}
 use Rattle.bus.proofs.Raws.{read-unsound, read-checked, read-plain, sound-x}
 use borrow.Author.Needs.{needs}
-use Rattle.raw.proofs.read_raw.Statement.{statement}
-use Rattle.raw.proofs.read_raw.Tie as tie
+use Rattle.raw.proofs.long.read_long.Statement.{statement}
+use Rattle.raw.proofs.long.read_long.Tie as tie
 
 -- ---- the places, each from a later one
 abbrev at-start : tie.After-is-sound → tie.Start
@@ -69,8 +69,8 @@ returns-3 c =
     at-plain c .plain-read .ensures
     ∙ read-plain _ _ _ _ (is (at-no-check (at-plain c) .before)) (at-no-check (at-plain c) .if2 .left)
 
-pub read-raw-spec : {M : Type 1} → statement M
-read-raw-spec =
+pub read-long-spec : {M : Type 1} → statement M
+read-long-spec =
     tie.close
     (tie.spec
     is-sound-requires

@@ -1,4 +1,4 @@
--- `raw::take_frame` meets its contract. Assumes nothing.
+-- `raw::long::take_frame` meets its contract. Assumes nothing.
 use mathlib.Core.Path.{_≡_, sym, ap, _∙_}
 use mathlib.Core.Bool.{Bool, true, false}
 use mathlib.Core.List.{List, [], _∷_}
@@ -17,8 +17,8 @@ use Rattle.raw.specs.Replies.{taken}
 use Rattle.raw.specs.declared.transfer.Reply.the-variants.{Made}
 use Rattle.raw.proofs.Asked.{taken-wrong, taken-fault, taken-right}
 use borrow.Author.Needs.{needs}
-use Rattle.raw.proofs.take_frame.Statement.{statement}
-use Rattle.raw.proofs.take_frame.Tie as tie
+use Rattle.raw.proofs.long.take_frame.Statement.{statement}
+use Rattle.raw.proofs.long.take_frame.Tie as tie
 
 -- ---- what a frame gives, by the reply and by its check bytes
 module _ (s : tie.Start) where

@@ -1,4 +1,4 @@
--- `raw::read_frame` meets its contract. Assumes nothing.
+-- `raw::long::read_frame` meets its contract. Assumes nothing.
 use mathlib.Core.Path.{_≡_, ap, _∙_}
 use Prim.Native.Nat.{ℕ, _*_}
 use mathlib.Core.List.{List}
@@ -8,8 +8,8 @@ use Rattle.raw.specs.Replies.{ReadBy}
 use Rattle.raw.specs.declared.transfer.Moved.{Moved}
 use Rattle.raw.proofs.Asked.{frame-read}
 use borrow.Author.Needs.{needs}
-use Rattle.raw.proofs.read_frame.Statement.{statement}
-use Rattle.raw.proofs.read_frame.Tie as tie
+use Rattle.raw.proofs.long.read_frame.Statement.{statement}
+use Rattle.raw.proofs.long.read_frame.Tie as tie
 
 -- ---- the places, each from a later one
 abbrev at-start : tie.After-slice-known3 → tie.Start

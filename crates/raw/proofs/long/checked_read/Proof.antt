@@ -1,4 +1,4 @@
--- `raw::checked_read` meets its contract. Assumes nothing.
+-- `raw::long::checked_read` meets its contract. Assumes nothing.
 use mathlib.Core.Path.{sym, _∙_}
 use Prim.Native.Nat.{_*_}
 use native.Mathlib.Omega.{arith}
@@ -7,8 +7,8 @@ use lib.Seq.{length-take-le}
 use denote.Ref.{now}
 use Rattle.bus.proofs.Raws.{zeros, checked-large, checked-empty, checked-out, checked-goes}
 use borrow.Author.Needs.{needs}
-use Rattle.raw.proofs.checked_read.Statement.{statement}
-use Rattle.raw.proofs.checked_read.Tie as tie
+use Rattle.raw.proofs.long.checked_read.Statement.{statement}
+use Rattle.raw.proofs.long.checked_read.Tie as tie
 
 -- ---- the places, each from a later one
 abbrev at-start : tie.After-struct-known → tie.Start
