@@ -1,9 +1,24 @@
 // One register read, two read, and one and six written, each as `read_raw` and `write_raw` do it for that count.
+ghost use mathlib.Core.Path.{_≡_};
+ghost use mathlib.Core.Bool.{true, false};
+ghost use Prim.Native.Nat.{_+_, _^_, _≤_, _<_};
+ghost use Rattle.frames.specs.Frames.{writeFrame};
 ghost use Rattle.bus.specs.Lent.{does};
-ghost use Rattle.bus.specs.Raw.{asRaw, gives, readRaw, writeRaw};
+ghost use Rattle.bus.specs.Raw.{asRaw, gives, readRaw, askBack, writeRaw};
+ghost use Rattle.raw.specs.Replies.{taken, onward};
+ghost use Rattle.raw.specs.declared.transfer.Reply.the-variants.{Made};
+use crate::done;
+use crate::long;
+use crate::refuse;
+use crate::well;
 use bus::Cursor;
 use bus::link::Link;
 use bus::link::Raw;
+use bus::link::RawAnswer;
+use check_byte::check_byte1;
+use check_byte::check_byte2;
+use check_byte::check_byte3;
+use refusals::Error;
 
 pub fn read_one(
     link: Link,
@@ -16,7 +31,36 @@ pub fn read_one(
     ensures { λ r. ⌜ does (readRaw link reg (now («data» .entry))) tape log at
         (gives (asRaw (r .answer)) (now («data» .exit))) (r .at) ⌝ }
 {
-    crate::read_raw(link, reg, data, tape, log, at)
+    let address = link.address;
+    let sound = link.is_sound();
+    if sound & link.check {
+        let mut frame = [0u8; 2];
+        if well::got(address, reg, &mut frame, tape, log, at) {
+            return frame_one(address, frame, data, at);
+        }
+    } else if sound {
+        if well::got(address, reg, data, tape, log, at) {
+            return done(at, 4, 7);
+        }
+    }
+    let mut held = *data;
+    let read = long::read_long(link, reg, &mut held, tape, log, at);
+    *data = held;
+    read
+}
+
+// What a frame of one byte and its check byte gives.
+fn frame_one(address: u8, frame: [u8; 2], data: &mut [u8; 1], at: Cursor) -> Raw
+    requires { ⌜ (at .tape + 5 < 2 ^ 64) × (at .log + 7 < 2 ^ 64) ⌝ }
+    ensures { λ r. ⌜ (gives (asRaw (r .answer)) (now («data» .exit)) ≡ taken address (now («data» .entry)) frame (Made false 2))
+        × (r .at ≡ onward at 5 7) ⌝ }
+{
+    let made = done(at, 5, 7);
+    if frame[1] != check_byte2(address << 1 | 1, frame[0]) {
+        return refuse(Error::CRCMismatch, made.at);
+    }
+    *data = [frame[0]];
+    made
 }
 
 pub fn read_two(
@@ -30,7 +74,38 @@ pub fn read_two(
     ensures { λ r. ⌜ does (readRaw link reg (now («data» .entry))) tape log at
         (gives (asRaw (r .answer)) (now («data» .exit))) (r .at) ⌝ }
 {
-    crate::read_raw(link, reg, data, tape, log, at)
+    let address = link.address;
+    let sound = link.is_sound() & (reg <= 254);
+    if sound & link.check {
+        let mut frame = [0u8; 4];
+        if well::got(address, reg, &mut frame, tape, log, at) {
+            return frame_two(address, frame, data, at);
+        }
+    } else if sound {
+        if well::got(address, reg, data, tape, log, at) {
+            return done(at, 5, 7);
+        }
+    }
+    let mut held = *data;
+    let read = long::read_long(link, reg, &mut held, tape, log, at);
+    *data = held;
+    read
+}
+
+// What a frame of two bytes, each with its check byte, gives.
+fn frame_two(address: u8, frame: [u8; 4], data: &mut [u8; 2], at: Cursor) -> Raw
+    requires { ⌜ (at .tape + 7 < 2 ^ 64) × (at .log + 7 < 2 ^ 64) ⌝ }
+    ensures { λ r. ⌜ (gives (asRaw (r .answer)) (now («data» .exit)) ≡ taken address (now («data» .entry)) frame (Made false 4))
+        × (r .at ≡ onward at 7 7) ⌝ }
+{
+    let made = done(at, 7, 7);
+    let first = frame[1] == check_byte2(address << 1 | 1, frame[0]);
+    let second = frame[3] == check_byte1(frame[2]);
+    if !(first & second) {
+        return refuse(Error::CRCMismatch, made.at);
+    }
+    *data = [frame[0], frame[2]];
+    made
 }
 
 pub fn write_one(
@@ -43,7 +118,37 @@ pub fn write_one(
 ) -> Raw
     ensures { λ r. ⌜ does (writeRaw link reg (now («data» .entry))) tape log at (asRaw (r .answer)) (r .at) ⌝ }
 {
-    crate::write_raw(link, reg, data, tape, log, at)
+    let address = link.address;
+    let sound = link.is_sound();
+    let held = *data;
+    if sound & link.check {
+        let frame = [reg, held[0], check_byte3(address << 1, reg, held[0])];
+        if well::sent(address, &frame, tape, log, at) {
+            return done(at, 3, 7);
+        }
+    } else if sound {
+        let frame = [reg, held[0]];
+        if well::sent(address, &frame, tape, log, at) {
+            let wrote = done(at, 3, 6);
+            return back_one(address, reg, held, tape, log, wrote.at);
+        }
+    }
+    crate::write_raw(link, reg, &held, tape, log, at)
+}
+
+fn back_one(address: u8, reg: u8, data: [u8; 1], tape: &[u8], log: &mut [u8], at: Cursor) -> Raw
+    requires { ⌜ reg + 1 ≤ 256 ⌝ }
+    ensures { λ r. ⌜ does (askBack address reg «data») tape log at (asRaw (r .answer)) (r .at) ⌝ }
+{
+    let mut back = [0u8; 1];
+    if !well::got(address, reg, &mut back, tape, log, at) {
+        return crate::verify(address, reg, &data, tape, log, at);
+    }
+    let read = done(at, 4, 7);
+    Raw {
+        answer: crate::compare(reg, &data, &back),
+        at: read.at,
+    }
 }
 
 pub fn write_six(
@@ -56,5 +161,56 @@ pub fn write_six(
 ) -> Raw
     ensures { λ r. ⌜ does (writeRaw link reg (now («data» .entry))) tape log at (asRaw (r .answer)) (r .at) ⌝ }
 {
-    crate::write_raw(link, reg, data, tape, log, at)
+    let address = link.address;
+    let sound = link.is_sound() & (reg <= 250);
+    let held = *data;
+    if sound & link.check {
+        let frame = six_checked(address, reg, held);
+        if well::sent(address, &frame, tape, log, at) {
+            return done(at, 3, 17);
+        }
+    } else if sound {
+        let frame = [reg, held[0], held[1], held[2], held[3], held[4], held[5]];
+        if well::sent(address, &frame, tape, log, at) {
+            let wrote = done(at, 3, 11);
+            return back_six(address, reg, held, tape, log, wrote.at);
+        }
+    }
+    crate::write_raw(link, reg, &held, tape, log, at)
+}
+
+fn back_six(address: u8, reg: u8, data: [u8; 6], tape: &[u8], log: &mut [u8], at: Cursor) -> Raw
+    requires { ⌜ reg + 6 ≤ 256 ⌝ }
+    ensures { λ r. ⌜ does (askBack address reg «data») tape log at (asRaw (r .answer)) (r .at) ⌝ }
+{
+    let mut back = [0u8; 6];
+    if !well::got(address, reg, &mut back, tape, log, at) {
+        return crate::verify(address, reg, &data, tape, log, at);
+    }
+    let read = done(at, 9, 7);
+    Raw {
+        answer: crate::compare(reg, &data, &back),
+        at: read.at,
+    }
+}
+
+// The frame of a write of six bytes with their check bytes.
+fn six_checked(address: u8, reg: u8, data: [u8; 6]) -> [u8; 13]
+    ensures { λ r. ⌜ r ≡ writeFrame true address reg «data» ⌝ }
+{
+    [
+        reg,
+        data[0],
+        check_byte3(address << 1, reg, data[0]),
+        data[1],
+        check_byte1(data[1]),
+        data[2],
+        check_byte1(data[2]),
+        data[3],
+        check_byte1(data[3]),
+        data[4],
+        check_byte1(data[4]),
+        data[5],
+        check_byte1(data[5]),
+    ]
 }
