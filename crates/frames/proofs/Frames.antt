@@ -1,18 +1,15 @@
--- The frames' lengths and bytes, and what is taken out of a read's again.
+-- The frames' lengths and bytes.
 -- Assumes nothing.
 use mathlib.Core.Path.{_≡_}
 use mathlib.Core.Bool.{Bool, true, false, cond}
 use mathlib.Core.List.{List, [], _∷_}
 use Prim.Native.Nat.{ℕ, _+_, _*_, _^_, _≤_, _<_}
 use native.Mathlib.Omega.{arith}
-use lib.ListN.{length, take}
-use lib.Seq.{take-all}
+use lib.ListN.{length}
 use borrow.Author.Tests.{le-leb, lt-leb}
 use Rattle.check_byte.specs.CheckByte.{Bytes}
-use Rattle.frames.specs.Frames.{writeByte, readByte, dataOf, framed, writeFrame, readFrame, written}
-use Rattle.frames.specs.Put.{put}
-use Rattle.frames.proofs.Put.{put-all}
-use Rattle.frames.proofs.Checked.{length-checked, data-checked, bytes-checked}
+use Rattle.frames.specs.Frames.{writeByte, readByte, framed, writeFrame, readFrame, written}
+use Rattle.frames.proofs.Checked.{length-checked, bytes-checked}
 
 length-framed : (check : Bool) (before bytes : List ℕ) → length (framed check before bytes) ≡ cond check 2 1 * length bytes
 unfolding framed
@@ -37,15 +34,6 @@ written-frame check address reg bytes h = rw (le-leb (length bytes) 8 h)
 pub written-none : (check : Bool) (address reg : ℕ) (bytes : List ℕ) → 8 < length bytes → written check address reg bytes ≡ []
 unfolding written
 written-none check address reg bytes h = rw (lt-leb (length bytes) 8 h)
-
--- what is taken out of the frame of a read is what was read
-pub read-back : (address : ℕ) (bytes out : List ℕ) → length out ≡ length bytes
-    → put out 0 (take (length out) (dataOf (readFrame true address bytes))) ≡ bytes
-unfolding readFrame framed
-read-back address bytes out e =
-    let fits : length bytes ≤ length out = omega arith in
-    let fills : length out ≤ length bytes = omega arith in
-    rw (data-checked, take-all (length out) bytes fits, put-all out bytes fills)
 
 -- of bytes, bytes
 pub writeByte-lt : (address : ℕ) → writeByte address < 2 ^ 8

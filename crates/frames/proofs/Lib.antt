@@ -1,6 +1,9 @@
 pub mod Checked
+pub mod Eights
 pub mod Example
 pub mod Frames
 pub mod Nothing
+pub mod Padded
+pub mod Parts
 pub mod Put
 pub mod Steps

@@ -2,9 +2,9 @@
 // a read is tested and its data taken out. `specs/Frames.antt` has the datasheet's rule.
 ghost use mathlib.Core.Path.{_≡_};
 ghost use mathlib.Core.List.{[], _∷_};
-ghost use mathlib.Core.Logic.{_⊎_};
-ghost use Prim.Native.Nat.{_+_, _*_, _/_, _≤_, _<_};
-ghost use lib.ListN.{length, take};
+ghost use Prim.Native.Nat.{_+_, _*_, _≤_, _<_};
+ghost use lib.ListN.{length, take, drop, replicate};
+ghost use Rattle.laws.specs.Choice.{if_then_else_};
 ghost use Rattle.frames.specs.Frames.{writeByte, readByte, checked, right, dataOf, written};
 ghost use Rattle.frames.specs.Put.{put};
 use check_byte::check_byte1;
@@ -61,60 +61,54 @@ pub fn write_frame(check: bool, address: u8, reg: u8, data: &[u8], out: &mut [u8
     }
 }
 
-// Whether each byte of a read has its check byte, and the right one. The longest frame, of 30 data bytes, is counted by a
-// constant, here and below, so that the compiler unrolls the loop.
-pub fn right_checks(address: u8, frame: &[u8]) -> bool
-    ensures { λ r. ⌜ r ≡ right (readByte address ∷ []) (now (frame .entry)) ⌝ }
+// The data of a read with check bytes, eight at a time, and whether they are all right; where one is wrong, data is zero.
+pub fn taken(address: u8, frame: &[u8; 66], eights: usize, data: &mut [u8; 32]) -> bool
+    ensures { λ r. ⌜ (r ≡ right (readByte address ∷ []) (take (16 * eights + 2) (now (frame .entry))))
+        × (now («data» .exit)
+        ≡ (if r then put (now («data» .entry)) 0 (take 32 (dataOf (take (16 * eights) (now (frame .entry))))) else replicate 32 0)) ⌝ }
 {
-    if frame.len() < 2 {
-        return frame.len() == 0;
+    // a slice: of an array behind a reference the proof is not told the length
+    let bytes: &[u8] = frame;
+    if bytes[1] != check_byte2(address << 1 | 1, bytes[0]) {
+        *data = [0u8; 32];
+        return false;
     }
-    if frame.len() == 60 {
-        return right_each(address, frame, 30);
+    let mut k = 0;
+    while (k < eights) & (k < 4) {
+        if !right_eight(bytes, k) {
+            *data = [0u8; 32];
+            return false;
+        }
+        carry_eight(bytes, k, data);
+        k += 1;
     }
-    right_each(address, frame, frame.len() / 2)
+    true
 }
 
-// No test leaves the loop, so that many bytes are tested at once.
-fn right_each(address: u8, frame: &[u8], n: usize) -> bool
-    requires { ⌜ (1 ≤ n) × (n ≡ length (now frame) / 2) ⌝ }
-    ensures { λ r. ⌜ r ≡ right (readByte address ∷ []) (now (frame .entry)) ⌝ }
+// Whether the eight pairs after the first and 8k more are each a byte and its check byte. The count is a constant and no test leaves
+// the loop, so that the compiler tests the eight at once.
+fn right_eight(frame: &[u8], k: usize) -> bool
+    requires { ⌜ 16 * k + 18 ≤ length (now frame) ⌝ }
+    ensures { λ r. ⌜ r ≡ right [] (take 16 (drop (16 * k + 2) (now (frame .entry)))) ⌝ }
 {
-    let mut right = frame[1] == check_byte2(address << 1 | 1, frame[0]);
-    let mut i = 1;
-    while i < n {
-        right = right & (frame[2 * i + 1] == check_byte1(frame[2 * i]));
+    let mut wrong: u8 = 0;
+    let mut i = 0;
+    while i < 8 {
+        wrong = wrong | (frame[16 * k + 2 * i + 3] ^ check_byte1(frame[16 * k + 2 * i + 2]));
         i += 1;
     }
-    right & (frame.len() == 2 * n)
+    wrong == 0
 }
 
-// The data of a read with check bytes, as far as the frame and data go.
-pub fn carried(frame: &[u8], data: &mut [u8])
+// The data bytes of eight pairs, from the 8k-th on.
+fn carry_eight(frame: &[u8], k: usize, data: &mut [u8])
+    requires { ⌜ (16 * k + 16 ≤ length (now frame)) × (8 * k + 8 ≤ length (now «data»)) ⌝ }
     ensures { λ _. ⌜ now («data» .exit)
-        ≡ put (now («data» .entry)) 0 (take (length (now («data» .entry))) (dataOf (now (frame .entry)))) ⌝ }
-{
-    let mut n = frame.len() - frame.len() / 2;
-    if data.len() < n {
-        n = data.len();
-    }
-    if n == 30 {
-        carry(frame, data, 30);
-    } else {
-        carry(frame, data, n);
-    }
-}
-
-// The first n of the frame's data.
-fn carry(frame: &[u8], data: &mut [u8], n: usize)
-    requires { ⌜ (2 * n ≤ length (now frame) + 1) × (n ≤ length (now «data»)) ⌝ }
-    requires { ⌜ (length (now «data») ≤ n) ⊎ (length (now frame) ≤ 2 * n) ⌝ }
-    ensures { λ _. ⌜ now («data» .exit)
-        ≡ put (now («data» .entry)) 0 (take (length (now («data» .entry))) (dataOf (now (frame .entry)))) ⌝ }
+        ≡ put (now («data» .entry)) (8 * k) (dataOf (take 16 (drop (16 * k) (now (frame .entry))))) ⌝ }
 {
     let mut i = 0;
-    while i < n {
-        data[i] = frame[2 * i];
+    while i < 8 {
+        data[8 * k + i] = frame[16 * k + 2 * i];
         i += 1;
     }
 }
