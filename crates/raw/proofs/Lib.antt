@@ -2,3 +2,4 @@ mod Asked
 mod Fields
 mod Heard
 mod Moves
+mod Quick

@@ -67,15 +67,21 @@ pub record WrittenBy (t : Transfer) (b : Bus) (m : Moved) (log′ : List ℕ) : 
 abbrev pub onward : Cursor → ℕ → ℕ → Cursor
 onward at tape log = record { tape = at .tape + tape; log = at .log + log }
 
+-- so far both go
+abbrev pub Reaches : Bus → ℕ → ℕ → Type 0
+Reaches b tape log = (b .at .tape + tape ≤ length (b .tape)) × (b .at .log + log ≤ length (b .log))
+
 -- a read by the short way: done, with all that it wants, or nothing touched
 abbrev pub GotBy : Transfer → Bus → List ℕ → Bool → List ℕ → List ℕ → Type 0
 GotBy t b buf true buf′ log′ =
     ReadBy t b buf (record { reply = Made false (length buf); at = onward (b .at) (3 + length buf) 7 }) buf′ log′
+    × Reaches b (3 + length buf) 7
 GotBy t b buf false buf′ log′ = (buf′ ≡ buf) × (log′ ≡ b .log)
 
 -- so of a write of so many bytes
 abbrev pub SentBy : Transfer → Bus → ℕ → Bool → List ℕ → Type 0
-SentBy t b n true log′ = WrittenBy t b (record { reply = Made false 0; at = onward (b .at) 3 (4 + n) }) log′
+SentBy t b n true log′ =
+    WrittenBy t b (record { reply = Made false 0; at = onward (b .at) 3 (4 + n) }) log′ × Reaches b 3 (4 + n)
 SentBy t b n false log′ = log′ ≡ b .log
 
 -- a reply as an answer: a fault is 2

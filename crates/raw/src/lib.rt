@@ -1,11 +1,12 @@
 // The chip's registers, read and written over a link, with check bytes or without.
 ghost use mathlib.Core.Path.{_≡_};
-ghost use Prim.Native.Nat.{_+_, _^_, _≤_, _<_};
-ghost use lib.ListN.{length, replicate};
+ghost use Prim.Native.Nat.{_+_, _*_, _^_, _≤_, _<_};
+ghost use lib.ListN.{length, replicate, take};
+ghost use Rattle.frames.specs.Put.{put};
 ghost use Rattle.bus.specs.Lent.{does};
-ghost use Rattle.bus.specs.Raw.{asRaw, gives, plainRead, askFrame, checkedRead, readRaw};
-ghost use Rattle.bus.specs.Raw.{askWrite, send, compared, askBack, writeRaw};
-ghost use Rattle.raw.specs.Replies.{answerTo, onward};
+ghost use Rattle.bus.specs.Raw.{asRaw, gives, readRaw, askWrite, send, compared, askBack, writeRaw};
+ghost use Rattle.raw.specs.Replies.{answerTo, onward, taken};
+ghost use Rattle.raw.specs.declared.transfer.Reply.the-variants.{Made};
 use crate::transfer::Reply;
 use bus::Cursor;
 use bus::link::Link;
@@ -43,17 +44,14 @@ fn refuse(e: Error, at: Cursor) -> Raw
     }
 }
 
-// Done, so many bytes further on tape and log.
-fn done(at: Cursor, tape: usize, log: usize) -> Raw
+// So many bytes further on tape and log.
+fn further(at: Cursor, tape: usize, log: usize) -> Cursor
     requires { ⌜ (at .tape + tape < 2 ^ 64) × (at .log + log < 2 ^ 64) ⌝ }
-    ensures { λ r. ⌜ (r .answer ≡ RawAnswer.Done) × (r .at ≡ onward at tape log) ⌝ }
+    ensures { λ r. ⌜ r ≡ onward at tape log ⌝ }
 {
-    Raw {
-        answer: RawAnswer::Done,
-        at: Cursor {
-            tape: at.tape + tape,
-            log: at.log + log,
-        },
+    Cursor {
+        tape: at.tape + tape,
+        log: at.log + log,
     }
 }
 
@@ -84,7 +82,47 @@ pub fn read_raw(
     ensures { λ r. ⌜ does (readRaw link «reg_address» (now («data» .entry))) tape log at
         (gives (asRaw (r .answer)) (now («data» .exit))) (r .at) ⌝ }
 {
+    let address = link.address;
+    let n = data.len();
+    let sound = link.is_sound() & (reg_address as usize + n <= 256);
+    let framed = link.check & (n != 0) & (n <= 2 * (link.x as usize));
+    if sound & framed {
+        let mut frame = [0u8; 66];
+        if well::got(address, reg_address, &mut frame[..2 * n], tape, log, at) {
+            return Raw {
+                answer: take_frame(address, &frame, false, data),
+                at: further(at, 3 + 2 * n, 7),
+            };
+        }
+    } else if sound & !link.check {
+        if well::got(address, reg_address, data, tape, log, at) {
+            return Raw {
+                answer: RawAnswer::Done,
+                at: further(at, 3 + n, 7),
+            };
+        }
+    }
     long::read_long(link, reg_address, data, tape, log, at)
+}
+
+// What a frame with check bytes gives, that stands first in zeros: 1 before a fault, and the data where all is right.
+fn take_frame(address: u8, frame: &[u8; 66], fault: bool, data: &mut [u8]) -> RawAnswer
+    requires { ⌜ (1 ≤ length (now «data»)) × (length (now «data») ≤ 30) ⌝ }
+    requires { ⌜ now frame ≡ put (replicate 66 0) 0 (take (2 * length (now «data»)) (now frame)) ⌝ }
+    ensures { λ r. ⌜ gives (asRaw r) (now («data» .exit))
+        ≡ taken address (now («data» .entry)) (take (2 * length (now («data» .entry))) (now (frame .entry)))
+        (Made fault (2 * length (now («data» .entry)))) ⌝ }
+{
+    let n = data.len();
+    let mut bytes = [0u8; 32];
+    if !frames::taken(address, frame, (n + 7) / 8, &mut bytes) {
+        return RawAnswer::Refused(Error::CRCMismatch);
+    }
+    if fault {
+        return RawAnswer::Refused(Error::I2CError);
+    }
+    transfer::deliver(&bytes[..n], data);
+    RawAnswer::Done
 }
 
 // One write that is not read back.

@@ -2,12 +2,13 @@
 ghost use mathlib.Core.Path.{_≡_};
 ghost use mathlib.Core.Bool.{true, false};
 ghost use Prim.Native.Nat.{_+_, _^_, _≤_, _<_};
+ghost use lib.ListN.{length};
 ghost use Rattle.frames.specs.Frames.{writeFrame};
 ghost use Rattle.bus.specs.Lent.{does};
 ghost use Rattle.bus.specs.Raw.{asRaw, gives, readRaw, askBack, writeRaw};
 ghost use Rattle.raw.specs.Replies.{taken, onward};
 ghost use Rattle.raw.specs.declared.transfer.Reply.the-variants.{Made};
-use crate::done;
+use crate::further;
 use crate::long;
 use crate::refuse;
 use crate::well;
@@ -33,6 +34,8 @@ pub fn read_one(
 {
     let address = link.address;
     let sound = link.is_sound();
+    let bytes: &[u8] = data;
+    let mut held = [bytes[0]];
     if sound & link.check {
         let mut frame = [0u8; 2];
         if well::got(address, reg, &mut frame, tape, log, at) {
@@ -40,10 +43,12 @@ pub fn read_one(
         }
     } else if sound {
         if well::got(address, reg, data, tape, log, at) {
-            return done(at, 4, 7);
+            return Raw {
+                answer: RawAnswer::Done,
+                at: further(at, 4, 7),
+            };
         }
     }
-    let mut held = *data;
     let read = long::read_long(link, reg, &mut held, tape, log, at);
     *data = held;
     read
@@ -51,16 +56,19 @@ pub fn read_one(
 
 // What a frame of one byte and its check byte gives.
 fn frame_one(address: u8, frame: [u8; 2], data: &mut [u8; 1], at: Cursor) -> Raw
-    requires { ⌜ (at .tape + 5 < 2 ^ 64) × (at .log + 7 < 2 ^ 64) ⌝ }
+    requires { ⌜ (length (now «data») ≡ 1) × (at .tape + 5 < 2 ^ 64) × (at .log + 7 < 2 ^ 64) ⌝ }
     ensures { λ r. ⌜ (gives (asRaw (r .answer)) (now («data» .exit)) ≡ taken address (now («data» .entry)) frame (Made false 2))
         × (r .at ≡ onward at 5 7) ⌝ }
 {
-    let made = done(at, 5, 7);
+    let next = further(at, 5, 7);
     if frame[1] != check_byte2(address << 1 | 1, frame[0]) {
-        return refuse(Error::CRCMismatch, made.at);
+        return refuse(Error::CRCMismatch, next);
     }
     *data = [frame[0]];
-    made
+    Raw {
+        answer: RawAnswer::Done,
+        at: next,
+    }
 }
 
 pub fn read_two(
@@ -76,6 +84,8 @@ pub fn read_two(
 {
     let address = link.address;
     let sound = link.is_sound() & (reg <= 254);
+    let bytes: &[u8] = data;
+    let mut held = [bytes[0], bytes[1]];
     if sound & link.check {
         let mut frame = [0u8; 4];
         if well::got(address, reg, &mut frame, tape, log, at) {
@@ -83,10 +93,12 @@ pub fn read_two(
         }
     } else if sound {
         if well::got(address, reg, data, tape, log, at) {
-            return done(at, 5, 7);
+            return Raw {
+                answer: RawAnswer::Done,
+                at: further(at, 5, 7),
+            };
         }
     }
-    let mut held = *data;
     let read = long::read_long(link, reg, &mut held, tape, log, at);
     *data = held;
     read
@@ -94,18 +106,21 @@ pub fn read_two(
 
 // What a frame of two bytes, each with its check byte, gives.
 fn frame_two(address: u8, frame: [u8; 4], data: &mut [u8; 2], at: Cursor) -> Raw
-    requires { ⌜ (at .tape + 7 < 2 ^ 64) × (at .log + 7 < 2 ^ 64) ⌝ }
+    requires { ⌜ (length (now «data») ≡ 2) × (at .tape + 7 < 2 ^ 64) × (at .log + 7 < 2 ^ 64) ⌝ }
     ensures { λ r. ⌜ (gives (asRaw (r .answer)) (now («data» .exit)) ≡ taken address (now («data» .entry)) frame (Made false 4))
         × (r .at ≡ onward at 7 7) ⌝ }
 {
-    let made = done(at, 7, 7);
+    let next = further(at, 7, 7);
     let first = frame[1] == check_byte2(address << 1 | 1, frame[0]);
     let second = frame[3] == check_byte1(frame[2]);
     if !(first & second) {
-        return refuse(Error::CRCMismatch, made.at);
+        return refuse(Error::CRCMismatch, next);
     }
     *data = [frame[0], frame[2]];
-    made
+    Raw {
+        answer: RawAnswer::Done,
+        at: next,
+    }
 }
 
 pub fn write_one(
@@ -120,17 +135,20 @@ pub fn write_one(
 {
     let address = link.address;
     let sound = link.is_sound();
-    let held = *data;
+    let bytes: &[u8] = data;
+    let held = [bytes[0]];
     if sound & link.check {
         let frame = [reg, held[0], check_byte3(address << 1, reg, held[0])];
         if well::sent(address, &frame, tape, log, at) {
-            return done(at, 3, 7);
+            return Raw {
+                answer: RawAnswer::Done,
+                at: further(at, 3, 7),
+            };
         }
     } else if sound {
         let frame = [reg, held[0]];
         if well::sent(address, &frame, tape, log, at) {
-            let wrote = done(at, 3, 6);
-            return back_one(address, reg, held, tape, log, wrote.at);
+            return back_one(address, reg, held, tape, log, further(at, 3, 6));
         }
     }
     crate::write_raw(link, reg, &held, tape, log, at)
@@ -144,10 +162,9 @@ fn back_one(address: u8, reg: u8, data: [u8; 1], tape: &[u8], log: &mut [u8], at
     if !well::got(address, reg, &mut back, tape, log, at) {
         return crate::verify(address, reg, &data, tape, log, at);
     }
-    let read = done(at, 4, 7);
     Raw {
         answer: crate::compare(reg, &data, &back),
-        at: read.at,
+        at: further(at, 4, 7),
     }
 }
 
@@ -163,17 +180,20 @@ pub fn write_six(
 {
     let address = link.address;
     let sound = link.is_sound() & (reg <= 250);
-    let held = *data;
+    let bytes: &[u8] = data;
+    let held = [bytes[0], bytes[1], bytes[2], bytes[3], bytes[4], bytes[5]];
     if sound & link.check {
         let frame = six_checked(address, reg, held);
         if well::sent(address, &frame, tape, log, at) {
-            return done(at, 3, 17);
+            return Raw {
+                answer: RawAnswer::Done,
+                at: further(at, 3, 17),
+            };
         }
     } else if sound {
         let frame = [reg, held[0], held[1], held[2], held[3], held[4], held[5]];
         if well::sent(address, &frame, tape, log, at) {
-            let wrote = done(at, 3, 11);
-            return back_six(address, reg, held, tape, log, wrote.at);
+            return back_six(address, reg, held, tape, log, further(at, 3, 11));
         }
     }
     crate::write_raw(link, reg, &held, tape, log, at)
@@ -187,10 +207,9 @@ fn back_six(address: u8, reg: u8, data: [u8; 6], tape: &[u8], log: &mut [u8], at
     if !well::got(address, reg, &mut back, tape, log, at) {
         return crate::verify(address, reg, &data, tape, log, at);
     }
-    let read = done(at, 9, 7);
     Raw {
         answer: crate::compare(reg, &data, &back),
-        at: read.at,
+        at: further(at, 9, 7),
     }
 }
 

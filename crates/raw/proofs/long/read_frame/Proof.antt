@@ -1,67 +1,78 @@
--- `raw::long::read_frame` meets its contract. Assumes nothing.
-use mathlib.Core.Path.{_≡_, ap, _∙_}
-use Prim.Native.Nat.{ℕ, _*_}
-use mathlib.Core.List.{List}
-use lib.ListN.{length, replicate, length-replicate}
-use Rattle.bus.specs.Transfers.{read, Bus}
-use Rattle.raw.specs.Replies.{ReadBy}
-use Rattle.raw.specs.declared.transfer.Moved.{Moved}
-use Rattle.raw.proofs.Asked.{frame-read}
 use borrow.Author.Needs.{needs}
 use Rattle.raw.proofs.long.read_frame.Statement.{statement}
 use Rattle.raw.proofs.long.read_frame.Tie as tie
+use Rattle.raw.proofs.long.read_frame.Reads as reads
+use Rattle.raw.proofs.long.read_frame.Lts as lts
+use Rattle.raw.proofs.answer_of.Reads as answer-of-reads
+use Rattle.raw.proofs.take_frame.Reads as take-frame-reads
+use Rattle.raw.proofs.transfer.transfer_read.Reads as transfer-read-reads
 
--- ---- the places, each from a later one
-abbrev at-start : tie.After-slice-known3 → tie.Start
-at-start c = c .before .before .before .before
+-- src/long.rt:70:68
+mul-frame : tie.Need-mul-frame
+mul-frame c = search needs
 
-abbrev at-lent : tie.After-transfer-read → tie.After-slice-known3
-at-lent c = c .before .before .before
+-- src/long.rt:70:55
+array-borrow-prefix-frame : tie.Need-array-borrow-prefix-frame
+array-borrow-prefix-frame c = search needs
 
-abbrev at-read : tie.After-slice-known5 → tie.After-transfer-read
-at-read c = c .before .before .before .before
+-- src/long.rt:70:55
+slice-aggregate-transfer-read : tie.Need-slice-aggregate-transfer-read
+slice-aggregate-transfer-read c = ?
 
-abbrev at-reply : tie.After-take-frame-arg2 → tie.After-slice-known5
-at-reply c = c .before .before .before
-
--- a read into zeros, two for each of n bytes
-into-zeros : {address reg : ℕ} {b : Bus} {zero frame log : List ℕ} {m : Moved} (n : ℕ) → zero ≡ replicate (2 * n) 0
-    → ReadBy (read address reg (length zero)) b zero m frame log
-    → ReadBy (read address reg (2 * n)) b (replicate (2 * n) 0) m frame log
-into-zeros n e r = rw (e, length-replicate {A = ℕ} (2 * n) 0) at r
-
--- ---- the needs
+-- src/long.rt:70:9
 transfer-read-requires : tie.Need-transfer-read-requires
 transfer-read-requires c κs = search needs
 
-take-frame-requires : tie.Need-take-frame-requires
-take-frame-requires c κs =
-    at-read (at-reply c) .transfer-read .kept .1 .1 .0
-    ∙ ap length (at-start (at-lent (at-read (at-reply c))) .pre)
-    ∙ length-replicate _ 0
+-- src/long.rt:73:21
+enum-known-reply : tie.Need-enum-known-reply
+enum-known-reply c = search needs
 
+-- src/long.rt:75:21
+enum-told : tie.Need-enum-told
+enum-told c = search needs
+
+-- src/long.rt:75:21
+answer-of-requires : tie.Need-answer-of-requires
+answer-of-requires c κs = search needs
+
+-- src/long.rt:74:9
 same-length : tie.Need-same-length
 same-length c = search needs
 
+-- src/long.rt:74:9
+returns : tie.Need-returns
+returns c = ?
+
+-- src/long.rt:80:17
+take-frame-requires : tie.Need-take-frame-requires
+take-frame-requires c κs = ?
+
+-- src/long.rt:63:1
 same-length-2 : tie.Need-same-length-2
 same-length-2 c = search needs
 
+-- src/long.rt:63:1
 same-length-3 : tie.Need-same-length-3
 same-length-3 c = search needs
 
-returns : tie.Need-returns
-returns c =
-    frame-read _ _ _ _ _ _ _ _ (c .before .before .take-frame .ensures)
-    (into-zeros _ (at-start (at-lent (at-read (at-reply (c .before .before .before)))) .pre)
-    (at-read (at-reply (c .before .before .before)) .transfer-read .ensures))
+-- src/long.rt:63:1
+returns-2 : tie.Need-returns-2
+returns-2 c = ?
 
 pub read-frame-spec : {M : Type 1} → statement M
 read-frame-spec =
     tie.close
     (tie.spec
+    mul-frame
+    array-borrow-prefix-frame
+    slice-aggregate-transfer-read
     transfer-read-requires
-    take-frame-requires
+    enum-known-reply
+    enum-told
+    answer-of-requires
     same-length
+    returns
+    take-frame-requires
     same-length-2
     same-length-3
-    returns)
+    returns-2)

@@ -96,9 +96,12 @@ returns : tie.Need-returns
 unfolding logField field wanted
 returns c =
     let a = s (c .before .before) .args in
-    rw (add-assoc (a .at .tape) 3 (length (now (a .buf)))) at
-    (read-by _ _ _ _ (made (at-test (at-logged (c .before .before)))) _ _ refl (copied (c .before .before))
-    _ (at-logged (c .before .before) .before .before .log-read .ensures) _ refl)
+    let test = at-test (at-logged (c .before .before)) in (
+      rw (add-assoc (a .at .tape) 3 (length (now (a .buf)))) at
+          (read-by _ _ _ _ (made test) _ _ refl (copied (c .before .before))
+          _ (at-logged (c .before .before) .before .before .log-read .ensures) _ refl),
+      (omega (arith, tape-room test), log-room test),
+    )
 
 returns-2 : tie.Need-returns-2
 returns-2 c = search needs

@@ -9,7 +9,7 @@ use denote.Ref.{now}
 use Rattle.bus.specs.Fields.{field}
 use Rattle.bus.specs.Transfers.{Transfer, write, Bus, busOf, logField, wanted}
 use Rattle.raw.specs.declared.transfer.Reply.the-variants.{Made}
-use Rattle.raw.proofs.Moves.{Replied, well, room, written-by}
+use Rattle.raw.proofs.Moves.{Replied, well, room, there, written-by}
 use borrow.Author.Needs.{needs}
 use Rattle.raw.proofs.well.sent.Statement.{statement}
 use Rattle.raw.proofs.well.sent.Tie as tie
@@ -42,6 +42,9 @@ module _ (c : tie.Then1) where
       well (transfer start) (bus start) _ _ (rw (need start) at (c .before .before .has-room .ensures))
       (c .before .is-done .ensures) (c .if1 .taken)
 
+  tape-room : start .args .at .tape + 3 ≤ length (now (start .args .tape))
+  tape-room = omega (arith, there (transfer start) (bus start) _ _ made)
+
   log-room : start .args .at .log + (4 + length (now (start .args .frame))) ≤ length (now (start .args .log))
   log-room = omega (arith, need start, room (transfer start) (bus start) _ _ made)
 
@@ -64,10 +67,12 @@ same-length c = search needs
 returns : tie.Need-returns
 unfolding logField wanted
 returns c =
-    let test = c .before .before .before .before in
-    rw (add-zero) at
-    (written-by _ _ _ _ (made test) refl _ (c .before .before .put-field .ensures)
-    _ (ap (λ (k : ℕ). start test .args .at .log + k) (need (start test))))
+    let test = c .before .before .before .before in (
+      rw (add-zero) at
+          (written-by _ _ _ _ (made test) refl _ (c .before .before .put-field .ensures)
+          _ (ap (λ (k : ℕ). start test .args .at .log + k) (need (start test)))),
+      (tape-room test, log-room test),
+    )
 
 returns-2 : tie.Need-returns-2
 returns-2 c = search needs

@@ -1,0 +1,149 @@
+-- From a transfer that was done by the short way: what the raw calls' programs that ask for it do.
+-- Assumes nothing.
+use mathlib.Core.Path.{_≡_, refl, sym, ap, subst, _∙_}
+use mathlib.Core.Bool.{Bool, true, false, _&&_, _||_}
+use Prim.Native.Nat.{ℕ, _+_, _*_, _≤_, _<_}
+use mathlib.Core.List.{List, [], _∷_, _++_}
+use native.Mathlib.Omega.{arith}
+use lib.ListN.{length, getD, replicate, length-replicate, drop-of-length-le}
+use lib.Seq.{drop-cons}
+use lib.Dec.{T, eqb}
+use borrow.Author.Tests.{eq-eqb, ne-eqb}
+use Rattle.check_byte.specs.CheckByte.{checkByte}
+use Rattle.refusals.specs.Refusal.{Answer, value}
+use Rattle.frames.specs.Frames.{readByte, right, dataOf, writeFrame}
+use Rattle.frames.specs.Put.{put}
+use Rattle.frames.proofs.Put.{put-all}
+use Rattle.bus.specs.Transfers.{Transfer, read, write, Bus, busOf}
+use Rattle.bus.specs.Programs.{ran, onTape}
+use Rattle.bus.specs.Raw.{sound, refuses, Read, gives, readRaw, askBack, send, writeRaw}
+use Rattle.bus.specs.declared.link.Link.{Link}
+use Rattle.bus.proofs.Raws.{checked-goes, read-checked, read-plain, send-goes, write-done, write-back}
+use Rattle.raw.specs.Replies.{taken, onward, ReadBy, WrittenBy, GotBy, SentBy}
+use Rattle.raw.specs.declared.transfer.Moved.{Moved}
+use Rattle.raw.specs.declared.transfer.Reply.the-variants.{Made}
+use Rattle.raw.proofs.Asked.{plain-read, taken-wrong, taken-right, frame-read, back-on, write-sent}
+
+-- ---- done, or nothing touched
+module _ (t : Transfer) (b : Bus) (buf buf′ log′ : List ℕ) where
+  pub is-got : (r : Bool) → r ≡ true → GotBy t b buf r buf′ log′ → GotBy t b buf true buf′ log′
+  is-got true e g = g
+  is-got false e g = absurd (subst T (sym e) tt)
+
+  pub not-got : (r : Bool) → r ≡ false → GotBy t b buf r buf′ log′ → (buf′ ≡ buf) × (log′ ≡ b .log)
+  not-got true e g = absurd (subst T e tt)
+  not-got false e g = g
+
+module _ (t : Transfer) (b : Bus) (n : ℕ) (log′ : List ℕ) where
+  pub is-sent : (r : Bool) → r ≡ true → SentBy t b n r log′ → SentBy t b n true log′
+  is-sent true e g = g
+  is-sent false e g = absurd (subst T (sym e) tt)
+
+  pub not-sent : (r : Bool) → r ≡ false → SentBy t b n r log′ → log′ ≡ b .log
+  not-sent true e g = absurd (subst T e tt)
+  not-sent false e g = g
+
+-- ---- a list of one, two and six, spelled out
+pub one : (l : List ℕ) → length l ≡ 1 → l ≡ getD l 0 0 ∷ []
+one l s = drop-cons l 0 0 (omega arith) ∙ ap (λ (r : List ℕ). getD l 0 0 ∷ r) (drop-of-length-le {i = 1} l (omega arith))
+
+pub two : (l : List ℕ) → length l ≡ 2 → l ≡ getD l 0 0 ∷ getD l 1 0 ∷ []
+two l s =
+    drop-cons l 0 0 (omega arith)
+    ∙ ap (λ (r : List ℕ). getD l 0 0 ∷ r) (drop-cons l 1 0 (omega arith)
+    ∙ ap (λ (r : List ℕ). getD l 1 0 ∷ r) (drop-of-length-le {i = 2} l (omega arith)))
+
+-- ---- a frame of one byte and its check byte, and of two
+and-true : (b : Bool) → b && true ≡ b
+and-true true = refl
+and-true false = refl
+
+pub right-one : (before frame : List ℕ) (c : ℕ) → length frame ≡ 2 → c ≡ checkByte (before ++ getD frame 0 0 ∷ [])
+    → right before frame ≡ eqb (getD frame 1 0) c
+unfolding right
+right-one before [] c s e = absurd (omega arith)
+right-one before (x ∷ []) c s e = absurd (omega arith)
+right-one before (x ∷ y ∷ []) c s e = rw e (and-true _)
+right-one before (x ∷ y ∷ z ∷ frame) c s e = absurd (omega arith)
+
+pub data-one : (frame : List ℕ) → length frame ≡ 2 → dataOf frame ≡ getD frame 0 0 ∷ []
+unfolding dataOf
+data-one [] s = absurd (omega arith)
+data-one (x ∷ []) s = absurd (omega arith)
+data-one (x ∷ y ∷ []) s = refl
+data-one (x ∷ y ∷ z ∷ frame) s = absurd (omega arith)
+
+pub right-two : (before frame : List ℕ) (c d : ℕ) → length frame ≡ 4
+    → c ≡ checkByte (before ++ getD frame 0 0 ∷ []) → d ≡ checkByte (getD frame 2 0 ∷ [])
+    → right before frame ≡ (eqb (getD frame 1 0) c && eqb (getD frame 3 0) d)
+unfolding right
+right-two before [] c d s e f = absurd (omega arith)
+right-two before (x ∷ []) c d s e f = absurd (omega arith)
+right-two before (x ∷ y ∷ frame) c d s e f =
+    rw e (ap (λ (b : Bool). eqb y (checkByte (before ++ x ∷ [])) && b) (right-one [] frame d (omega arith) f))
+
+pub data-two : (frame : List ℕ) → length frame ≡ 4 → dataOf frame ≡ getD frame 0 0 ∷ getD frame 2 0 ∷ []
+unfolding dataOf
+data-two [] s = absurd (omega arith)
+data-two (x ∷ []) s = absurd (omega arith)
+data-two (x ∷ y ∷ frame) s = ap (λ (l : List ℕ). x ∷ l) (data-one frame (omega arith))
+
+-- what such a frame gives
+module _ (address : ℕ) (buf frame : List ℕ) (n : ℕ) where
+  pub frame-wrong : right (readByte address ∷ []) frame ≡ false → gives (refuses 1) buf ≡ taken address buf frame (Made false n)
+  frame-wrong e = sym (taken-wrong address buf frame false n e)
+
+  pub frame-right : {v : List ℕ} → right (readByte address ∷ []) frame ≡ true → dataOf frame ≡ v → length buf ≤ length v
+      → gives (value tt) v ≡ taken address buf frame (Made false n)
+  frame-right {v} e d s =
+      sym (taken-right address buf frame n e ∙ ap (gives (value tt)) (ap (put buf 0) d ∙ put-all buf v s))
+
+-- a sound link that does not go with check bytes goes without
+pub reads-plain : (sound check : Bool) → sound && check ≡ false → sound ≡ true → check ≡ false
+reads-plain true check e s = e
+reads-plain false check e s = absurd (subst T (sym s) tt)
+
+-- ---- reading
+module _ (s : Link) (reg : ℕ) (buf : List ℕ) (b : Bus) (ok : sound s ≡ true) (within : reg + length buf ≤ 256) where
+  pub read-well : {buf′ log′ : List ℕ} → s .check ≡ false
+      → GotBy (read (s .address) reg (length buf)) b buf true buf′ log′
+      → ran (gives (value tt) buf′) (b .tape) log′ (onward (b .at) (3 + length buf) 7) ≡ onTape (readRaw s reg buf) b
+  read-well c g = plain-read s reg buf b within _ _ _ (g .0) ∙ read-plain s reg buf b ok c
+
+  -- into a frame that is zero before
+  pub frame-well : {zeros frame log′ : List ℕ} (x : Read) → s .check ≡ true → length buf ≤ 2 * s .x → (length buf ≡ 0 → ⊥)
+      → zeros ≡ replicate (2 * length buf) 0
+      → GotBy (read (s .address) reg (length zeros)) b zeros true frame log′
+      → x ≡ taken (s .address) buf frame (Made false (length zeros))
+      → ran x (b .tape) log′ (onward (b .at) (3 + length zeros) 7) ≡ onTape (readRaw s reg buf) b
+  frame-well {zeros} {frame} {log′} x c few some z g e =
+      let size : length zeros ≡ 2 * length buf = ap length z ∙ length-replicate {A = ℕ} (2 * length buf) 0 in
+      let m : Moved = record { reply = Made false (length zeros); at = onward (b .at) (3 + length zeros) 7 } in
+      let sized = subst (λ (k : ℕ). ReadBy (read (s .address) reg k) b zeros m frame log′) size (g .0) in
+      frame-read (s .address) reg buf b m frame log′ x e
+      (subst (λ (l : List ℕ). ReadBy (read (s .address) reg (2 * length buf)) b l m frame log′) z sized)
+      ∙ checked-goes s reg buf b few some within
+      ∙ read-checked s reg buf b ok c
+
+-- ---- writing
+module _ (s : Link) (reg : ℕ) (bytes frame : List ℕ) (b : Bus) {log′ : List ℕ} (ok : sound s ≡ true)
+    (few : length bytes ≤ 8) (some : length bytes ≡ 0 → ⊥) (within : reg + length bytes ≤ 256)
+    (is : frame ≡ writeFrame (s .check) (s .address) reg bytes)
+    (sent : SentBy (write (s .address) frame) b (length frame) true log′) where
+  abbrev after : Bus
+  after = busOf (b .tape) log′ (onward (b .at) 3 (4 + length frame))
+
+  move : Moved
+  move = record { reply = Made false 0; at = onward (b .at) 3 (4 + length frame) }
+
+  went : record { answer = value tt; bus = after } ≡ onTape (send s reg bytes) b
+  unfolding move
+  went =
+      write-sent s reg bytes b move log′ (subst (λ (l : List ℕ). WrittenBy (write (s .address) l) b move log′) is (sent .0))
+      ∙ send-goes s reg bytes b ok few some within
+
+  pub sent-well : s .check ≡ true → ran (value tt) (b .tape) log′ (onward (b .at) 3 (4 + length frame)) ≡ onTape (writeRaw s reg bytes) b
+  sent-well c = write-done s reg bytes b after (value tt) went refl (rw c)
+
+  pub sent-back : s .check ≡ false → onTape (askBack (s .address) reg bytes) after ≡ onTape (writeRaw s reg bytes) b
+  sent-back c = write-back s reg bytes b after (value tt) went refl (rw (c, ne-eqb _ _ some))
