@@ -2,15 +2,19 @@
 -- Assumes nothing.
 use mathlib.Core.Path.{_≡_, refl, sym, ap, subst, _∙_}
 use mathlib.Core.Bool.{Bool, true, false, _&&_, _||_}
-use Prim.Native.Nat.{ℕ, _+_, _*_, _≤_, _<_}
+use mathlib.Core.Logic.{_⊎_, inl, inr, ⊎-elim}
+use Prim.Native.Nat.{ℕ, _+_, _*_, _≤_}
 use mathlib.Core.List.{List, [], _∷_, _++_}
 use native.Mathlib.Omega.{arith}
-use lib.ListN.{length, getD, replicate, length-replicate, drop-of-length-le}
-use lib.Seq.{drop-cons}
-use lib.Dec.{T, eqb}
+use lib.ListN.{length, take, drop, getD, replicate, length-replicate, drop-of-length-le}
+use lib.Seq.{take-at, drop-cons}
+use lib.Dec.{T, eqb, leb, eqb→eq}
+use mir.Facts.{or-yes}
+use Rattle.laws.proofs.Tests.{both-right}
 use borrow.Author.Tests.{eq-eqb, ne-eqb}
 use Rattle.check_byte.specs.CheckByte.{checkByte}
-use Rattle.refusals.specs.Refusal.{Answer, value}
+use Rattle.refusals.specs.Refusal.{value}
+use Rattle.refusals.specs.declared.Error.{Error}
 use Rattle.frames.specs.Frames.{readByte, right, dataOf, writeFrame}
 use Rattle.frames.specs.Put.{put}
 use Rattle.frames.proofs.Put.{put-all}
@@ -19,9 +23,10 @@ use Rattle.bus.specs.Programs.{ran, onTape}
 use Rattle.bus.specs.Raw.{sound, refuses, Read, gives, readRaw, askBack, send, writeRaw}
 use Rattle.bus.specs.declared.link.Link.{Link}
 use Rattle.bus.proofs.Raws.{checked-goes, read-checked, read-plain, send-goes, write-done, write-back}
-use Rattle.raw.specs.Replies.{taken, onward, ReadBy, WrittenBy, GotBy, SentBy}
+use Rattle.raw.specs.Replies.{answerTo, taken, onward, ReadBy, WrittenBy, GotBy, SentBy}
 use Rattle.raw.specs.declared.transfer.Moved.{Moved}
-use Rattle.raw.specs.declared.transfer.Reply.the-variants.{Made}
+use Rattle.raw.specs.declared.transfer.Reply.{Reply}
+use Rattle.raw.specs.declared.transfer.Reply.the-variants.{Made, Stopped}
 use Rattle.raw.proofs.Asked.{plain-read, taken-wrong, taken-right, frame-read, back-on, write-sent}
 
 -- ---- done, or nothing touched
@@ -43,15 +48,18 @@ module _ (t : Transfer) (b : Bus) (n : ℕ) (log′ : List ℕ) where
   not-sent true e g = absurd (subst T e tt)
   not-sent false e g = g
 
--- ---- a list of one, two and six, spelled out
+-- ---- a list of one and of two, spelled out
+past : (l : List ℕ) (i : ℕ) → length l ≤ i → drop i l ≡ []
+past l i h = drop-of-length-le l h
+
 pub one : (l : List ℕ) → length l ≡ 1 → l ≡ getD l 0 0 ∷ []
-one l s = drop-cons l 0 0 (omega arith) ∙ ap (λ (r : List ℕ). getD l 0 0 ∷ r) (drop-of-length-le {i = 1} l (omega arith))
+one l s = drop-cons l 0 0 (omega arith) ∙ ap (λ (r : List ℕ). getD l 0 0 ∷ r) (past l 1 (omega arith))
 
 pub two : (l : List ℕ) → length l ≡ 2 → l ≡ getD l 0 0 ∷ getD l 1 0 ∷ []
 two l s =
     drop-cons l 0 0 (omega arith)
     ∙ ap (λ (r : List ℕ). getD l 0 0 ∷ r) (drop-cons l 1 0 (omega arith)
-    ∙ ap (λ (r : List ℕ). getD l 1 0 ∷ r) (drop-of-length-le {i = 2} l (omega arith)))
+    ∙ ap (λ (r : List ℕ). getD l 1 0 ∷ r) (past l 2 (omega arith)))
 
 -- ---- a frame of one byte and its check byte, and of two
 and-true : (b : Bool) → b && true ≡ b
@@ -98,10 +106,56 @@ module _ (address : ℕ) (buf frame : List ℕ) (n : ℕ) where
   frame-right {v} e d s =
       sym (taken-right address buf frame n e ∙ ap (gives (value tt)) (ap (put buf 0) d ∙ put-all buf v s))
 
+-- a device has at least five inputs
+pub five : (s : Link) → sound s ≡ true → 5 ≤ s .x
+five s e =
+    let small = eqb (s .x) 5 || eqb (s .x) 10 in
+    by-size
+    (or-yes small (eqb (s .x) 15) (both-right (leb (s .address) 127) (small || eqb (s .x) 15) (subst T (sym e) tt)))
+  where
+    by-size : T (eqb (s .x) 5 || eqb (s .x) 10) ⊎ T (eqb (s .x) 15) → 5 ≤ s .x
+    by-size (inr t) = omega (arith, eqb→eq (s .x) 15 t)
+    by-size (inl t) =
+        ⊎-elim
+        (λ (u : T (eqb (s .x) 5)). omega (arith, eqb→eq (s .x) 5 u))
+        (λ (u : T (eqb (s .x) 10)). omega (arith, eqb→eq (s .x) 10 u))
+        (or-yes (eqb (s .x) 5) (eqb (s .x) 10) t)
+
 -- a sound link that does not go with check bytes goes without
 pub reads-plain : (sound check : Bool) → sound && check ≡ false → sound ≡ true → check ≡ false
 reads-plain true check e s = e
 reads-plain false check e s = absurd (subst T (sym s) tt)
+
+-- ---- a frame in the first of an array's zeros
+module _ (zeros frame : List ℕ) (k : ℕ) (size : length frame ≡ k) where
+  pub in-front : take k (frame ++ drop k zeros) ≡ frame
+  in-front = take-at frame (drop k zeros) k size
+
+  pub among-zeros : frame ++ drop k zeros ≡ put zeros 0 (take k (frame ++ drop k zeros))
+  unfolding put
+  among-zeros =
+      let none : 0 + k ≡ k = omega arith in
+      rw (in-front, size, none)
+
+-- a reply that the transfer was made gives the same for any count of bytes
+pub taken-any : (address : ℕ) (buf frame : List ℕ) (f : Bool) (n m : ℕ)
+    → taken address buf frame (Made f n) ≡ taken address buf frame (Made f m)
+unfolding taken
+taken-any address buf frame true n m = refl
+taken-any address buf frame false n m = refl
+
+-- and one that it was not, its refusal
+pub taken-stopped : (address : ℕ) (buf frame : List ℕ) {r : Reply} {e : Error} → r ≡ Stopped e
+    → gives (answerTo r) buf ≡ taken address buf frame r
+unfolding taken
+taken-stopped address buf frame {r} {e} h =
+    subst (λ (q : Reply). gives (answerTo q) buf ≡ taken address buf frame q) (sym h) refl
+
+-- a read into zeros, two for each of n bytes
+pub into-zeros : {address reg : ℕ} {b : Bus} {frame log : List ℕ} {m : Moved} (zero : List ℕ) (n : ℕ) → zero ≡ replicate (2 * n) 0
+    → ReadBy (read address reg (length zero)) b zero m frame log
+    → ReadBy (read address reg (2 * n)) b (replicate (2 * n) 0) m frame log
+into-zeros zero n e r = rw (e, length-replicate {A = ℕ} (2 * n) 0) at r
 
 -- ---- reading
 module _ (s : Link) (reg : ℕ) (buf : List ℕ) (b : Bus) (ok : sound s ≡ true) (within : reg + length buf ≤ 256) where
@@ -117,11 +171,8 @@ module _ (s : Link) (reg : ℕ) (buf : List ℕ) (b : Bus) (ok : sound s ≡ tru
       → x ≡ taken (s .address) buf frame (Made false (length zeros))
       → ran x (b .tape) log′ (onward (b .at) (3 + length zeros) 7) ≡ onTape (readRaw s reg buf) b
   frame-well {zeros} {frame} {log′} x c few some z g e =
-      let size : length zeros ≡ 2 * length buf = ap length z ∙ length-replicate {A = ℕ} (2 * length buf) 0 in
       let m : Moved = record { reply = Made false (length zeros); at = onward (b .at) (3 + length zeros) 7 } in
-      let sized = subst (λ (k : ℕ). ReadBy (read (s .address) reg k) b zeros m frame log′) size (g .0) in
-      frame-read (s .address) reg buf b m frame log′ x e
-      (subst (λ (l : List ℕ). ReadBy (read (s .address) reg (2 * length buf)) b l m frame log′) z sized)
+      frame-read (s .address) reg buf b m frame log′ x e (into-zeros zeros (length buf) z (g .0))
       ∙ checked-goes s reg buf b few some within
       ∙ read-checked s reg buf b ok c
 

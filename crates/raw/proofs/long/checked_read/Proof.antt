@@ -1,27 +1,17 @@
 -- `raw::long::checked_read` meets its contract. Assumes nothing.
-use mathlib.Core.Path.{sym, _∙_}
-use Prim.Native.Nat.{_*_}
+use mathlib.Core.Path.{_∙_}
 use native.Mathlib.Omega.{arith}
-use lib.ListN.{length}
-use lib.Seq.{length-take-le}
-use denote.Ref.{now}
-use Rattle.bus.proofs.Raws.{zeros, checked-large, checked-empty, checked-out, checked-goes}
+use Rattle.bus.proofs.Raws.{checked-large, checked-empty, checked-out, checked-goes}
 use borrow.Author.Needs.{needs}
 use Rattle.raw.proofs.long.checked_read.Statement.{statement}
 use Rattle.raw.proofs.long.checked_read.Tie as tie
 
 -- ---- the places, each from a later one
-abbrev at-start : tie.After-struct-known → tie.Start
-at-start c = c .before .before .before .before
-
-abbrev at-known : tie.Else3 → tie.After-struct-known
-at-known c = c .before .before .before
-
 abbrev at-tests : tie.After-read-frame-arg2 → tie.Else3
-at-tests c = c .before .before .before
+at-tests c = c .before .before
 
-abbrev at-read : tie.After-slice-known3 → tie.After-read-frame
-at-read c = c .before .before .before
+abbrev at-read : tie.After-slice-known4 → tie.After-read-frame
+at-read c = c .before .before .before .before
 
 -- ---- the needs
 cast-if1 : tie.Need-cast-if1
@@ -50,18 +40,8 @@ returns-3 c =
     simp (c .refuse2 .ensures .0, c .refuse2 .ensures .1)
     (checked-out _ _ _ _ (omega arith) (c .before .before .if2 .left) (omega arith))
 
-mul-frame : tie.Need-mul-frame
-mul-frame c = search needs
-
-array-borrow-prefix-frame : tie.Need-array-borrow-prefix-frame
-array-borrow-prefix-frame c = search needs
-
-slice-aggregate-read-frame : tie.Need-slice-aggregate-read-frame
-slice-aggregate-read-frame c = sym (length-take-le _ _ (omega arith))
-
 read-frame-requires : tie.Need-read-frame-requires
-read-frame-requires c κs =
-    zeros (2 * length (now (at-start (at-known (at-tests c)) .args .«data»))) 60 (omega arith)
+read-frame-requires c κs = (omega (arith, at-tests c .before .if2 .left), omega arith)
 
 same-length : tie.Need-same-length
 same-length c = search needs
@@ -71,9 +51,8 @@ same-length-2 c = search needs
 
 returns-4 : tie.Need-returns-4
 returns-4 c =
-    at-read (c .before .before) .read-frame .ensures
-    ∙ checked-goes _ _ _ _ (omega arith)
-    (at-tests (at-read (c .before .before) .before) .before .if2 .left) (omega arith)
+    at-read c .read-frame .ensures
+    ∙ checked-goes _ _ _ _ (omega arith) (at-tests (at-read c .before) .before .if2 .left) (omega arith)
 
 pub checked-read-spec : {M : Type 1} → statement M
 checked-read-spec =
@@ -87,9 +66,6 @@ checked-read-spec =
     add-if3
     refuse-requires-2
     returns-3
-    mul-frame
-    array-borrow-prefix-frame
-    slice-aggregate-read-frame
     read-frame-requires
     same-length
     same-length-2
