@@ -3,3 +3,4 @@ mod Fields
 mod Heard
 mod Moves
 mod Quick
+mod Writes

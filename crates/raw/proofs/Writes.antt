@@ -1,0 +1,101 @@
+-- One register and six written by the short way: their frames, and what the calls' programs do from there on.
+-- Assumes nothing.
+use mathlib.Core.Path.{_≡_, refl, sym, ap, _∙_}
+use mathlib.Core.Bool.{Bool, true, false}
+use Prim.Native.Nat.{ℕ, _+_, _*_, _%_, _≤_}
+use mathlib.Core.List.{List, [], _∷_}
+use native.Mathlib.Omega.{arith}
+use lib.ListN.{length, getD, drop-of-length-le}
+use lib.Seq.{drop-cons}
+use Rattle.check_byte.specs.CheckByte.{checkByte}
+use Rattle.refusals.specs.Refusal.{Answer, value}
+use Rattle.frames.specs.Frames.{checked, framed, writeFrame}
+use Rattle.frames.proofs.Steps.{shifted}
+use Rattle.bus.specs.Transfers.{read, write, Bus, busOf}
+use Rattle.bus.specs.Programs.{Prog, Ran, ran, onTape}
+use Rattle.bus.specs.Raw.{Done, sound, compared, askBack, writeRaw}
+use Rattle.bus.specs.declared.Cursor.{Cursor}
+use Rattle.bus.specs.declared.link.Link.{Link}
+use Rattle.raw.specs.Replies.{onward, Reaches, GotBy, SentBy}
+use Rattle.raw.proofs.Asked.{back-on}
+use Rattle.raw.proofs.Quick.{is-sent, sent-well, sent-back}
+
+-- ---- a list of six, spelled out
+pub six : (l : List ℕ) → length l ≡ 6
+    → l ≡ getD l 0 0 ∷ getD l 1 0 ∷ getD l 2 0 ∷ getD l 3 0 ∷ getD l 4 0 ∷ getD l 5 0 ∷ []
+six l s =
+    drop-cons l 0 0 (omega arith)
+    ∙ ap (λ (r : List ℕ). getD l 0 0 ∷ r) (drop-cons l 1 0 (omega arith)
+    ∙ ap (λ (r : List ℕ). getD l 1 0 ∷ r) (drop-cons l 2 0 (omega arith)
+    ∙ ap (λ (r : List ℕ). getD l 2 0 ∷ r) (drop-cons l 3 0 (omega arith)
+    ∙ ap (λ (r : List ℕ). getD l 3 0 ∷ r) (drop-cons l 4 0 (omega arith)
+    ∙ ap (λ (r : List ℕ). getD l 4 0 ∷ r) (drop-cons l 5 0 (omega arith)
+    ∙ ap (λ (r : List ℕ). getD l 5 0 ∷ r) (drop-of-length-le l {i = 6} (omega arith)))))))
+
+-- ---- the frames
+-- the first check byte, as the code has it, covers the address byte and the register too
+module _ (address reg : ℕ) where
+  pub one-checked : (x c : ℕ) → c ≡ checkByte (address * 2 % 256 ∷ reg ∷ x ∷ [])
+      → reg ∷ x ∷ c ∷ [] ≡ writeFrame true address reg (x ∷ [])
+  unfolding writeFrame framed checked
+  one-checked x c e = rw (e, shifted address)
+
+  six-spelled : (u v w x y z c d e f g h : ℕ) → c ≡ checkByte (address * 2 % 256 ∷ reg ∷ u ∷ [])
+      → d ≡ checkByte (v ∷ []) → e ≡ checkByte (w ∷ []) → f ≡ checkByte (x ∷ []) → g ≡ checkByte (y ∷ []) → h ≡ checkByte (z ∷ [])
+      → reg ∷ u ∷ c ∷ v ∷ d ∷ w ∷ e ∷ x ∷ f ∷ y ∷ g ∷ z ∷ h ∷ []
+      ≡ writeFrame true address reg (u ∷ v ∷ w ∷ x ∷ y ∷ z ∷ [])
+  unfolding writeFrame framed checked
+  six-spelled u v w x y z c d e f g h cs ds es fs gs hs = rw (cs, shifted address, ds, es, fs, gs, hs)
+
+  pub six-checked : (l : List ℕ) (c d e f g h : ℕ) → length l ≡ 6 → c ≡ checkByte (address * 2 % 256 ∷ reg ∷ getD l 0 0 ∷ [])
+      → d ≡ checkByte (getD l 1 0 ∷ []) → e ≡ checkByte (getD l 2 0 ∷ []) → f ≡ checkByte (getD l 3 0 ∷ [])
+      → g ≡ checkByte (getD l 4 0 ∷ []) → h ≡ checkByte (getD l 5 0 ∷ [])
+      → reg ∷ getD l 0 0 ∷ c ∷ getD l 1 0 ∷ d ∷ getD l 2 0 ∷ e ∷ getD l 3 0 ∷ f ∷ getD l 4 0 ∷ g ∷ getD l 5 0 ∷ h ∷ []
+      ≡ writeFrame true address reg l
+  six-checked l c d e f g h s cs ds es fs gs hs =
+      six-spelled _ _ _ _ _ _ _ _ _ _ _ _ cs ds es fs gs hs ∙ ap (writeFrame true address reg) (sym (six l s))
+
+  -- without checks the data follows the register
+  pub plain-frame : (bytes : List ℕ) → reg ∷ bytes ≡ writeFrame false address reg bytes
+  unfolding writeFrame framed
+  plain-frame bytes = refl
+
+-- ---- nothing touched: the program is done from the same bus
+pub from-same : {A : Type 0} (p : Prog A) (b : Bus) {log′ : List ℕ} {x : Ran A} → log′ ≡ b .log
+    → x ≡ onTape p (busOf (b .tape) log′ (b .at)) → x ≡ onTape p b
+from-same p b e w = w ∙ ap (λ (l : List ℕ). onTape p (busOf (b .tape) l (b .at))) e
+
+-- ---- read back by the short way
+pub back-well : (address reg : ℕ) (bytes : List ℕ) (b : Bus) (back : List ℕ) {back′ log′ : List ℕ} {x : Answer Done} {at : Cursor}
+    → length back ≡ length bytes → length back′ ≡ length back
+    → GotBy (read address reg (length back)) b back true back′ log′
+    → x ≡ compared reg bytes back′ → at ≡ onward (b .at) (3 + length back) 7
+    → ran x (b .tape) log′ at ≡ onTape (askBack address reg bytes) b
+back-well address reg bytes b back {back′} {log′} same kept g e f =
+    rw (e, f) (back-on address reg bytes b back same _ back′ log′ kept (g .0) refl)
+
+-- ---- written by the short way
+-- `held` is what the code has of the bytes
+module _ (s : Link) (reg : ℕ) (bytes held frame : List ℕ) (b : Bus) {log′ : List ℕ} {at : Cursor} (same : bytes ≡ held) (ok : sound s ≡ true)
+    (some : 1 ≤ length held) (few : length held ≤ 8) (within : reg + length held ≤ 256)
+    (sent : SentBy (write (s .address) frame) b (length frame) true log′) (next : at ≡ onward (b .at) 3 (4 + length frame)) where
+  as-given : onTape (writeRaw s reg held) b ≡ onTape (writeRaw s reg bytes) b
+  as-given = ap (λ (l : List ℕ). onTape (writeRaw s reg l) b) (sym same)
+
+  not-none : length held ≡ 0 → ⊥
+  not-none z = omega arith
+
+  pub write-checked : s .check ≡ true → frame ≡ writeFrame true (s .address) reg held
+      → ran (value tt) (b .tape) log′ at ≡ onTape (writeRaw s reg bytes) b
+  write-checked c is =
+      let as-told = is ∙ ap (λ (k : Bool). writeFrame k (s .address) reg held) (sym c) in
+      rw next (sent-well s reg held frame b ok few not-none within as-told sent c) ∙ as-given
+
+  pub write-plain : {x : Ran (Answer Done)} → s .check ≡ false → frame ≡ writeFrame false (s .address) reg held
+      → x ≡ onTape (askBack (s .address) reg held) (busOf (b .tape) log′ at) → x ≡ onTape (writeRaw s reg bytes) b
+  write-plain c is w =
+      let as-told = is ∙ ap (λ (k : Bool). writeFrame k (s .address) reg held) (sym c) in
+      w
+      ∙ ap (λ (k : Cursor). onTape (askBack (s .address) reg held) (busOf (b .tape) log′ k)) next
+      ∙ sent-back s reg held frame b ok few not-none within as-told sent c
+      ∙ as-given
