@@ -16,9 +16,9 @@ use Rattle.bus.specs.Programs.{Prog, Ran, ran, onTape}
 use Rattle.bus.specs.Raw.{Done, sound, compared, askBack, writeRaw}
 use Rattle.bus.specs.declared.Cursor.{Cursor}
 use Rattle.bus.specs.declared.link.Link.{Link}
-use Rattle.raw.specs.Replies.{onward, Reaches, GotBy, SentBy}
+use Rattle.raw.specs.Replies.{onward, GotBy, SentBy}
 use Rattle.raw.proofs.Asked.{back-on}
-use Rattle.raw.proofs.Quick.{is-sent, sent-well, sent-back}
+use Rattle.raw.proofs.Quick.{sent-well, sent-back}
 
 -- ---- a list of six, spelled out
 pub six : (l : List ℕ) → length l ≡ 6
@@ -74,28 +74,37 @@ pub back-well : (address reg : ℕ) (bytes : List ℕ) (b : Bus) (back : List �
 back-well address reg bytes b back {back′} {log′} same kept g e f =
     rw (e, f) (back-on address reg bytes b back same _ back′ log′ kept (g .0) refl)
 
--- ---- written by the short way
+-- ---- written by the short way, or by the long way with nothing touched before
 -- `held` is what the code has of the bytes
-module _ (s : Link) (reg : ℕ) (bytes held frame : List ℕ) (b : Bus) {log′ : List ℕ} {at : Cursor} (same : bytes ≡ held) (ok : sound s ≡ true)
-    (some : 1 ≤ length held) (few : length held ≤ 8) (within : reg + length held ≤ 256)
-    (sent : SentBy (write (s .address) frame) b (length frame) true log′) (next : at ≡ onward (b .at) 3 (4 + length frame)) where
+module _ (s : Link) (reg : ℕ) (bytes held : List ℕ) (b : Bus) (same : bytes ≡ held) where
   as-given : onTape (writeRaw s reg held) b ≡ onTape (writeRaw s reg bytes) b
   as-given = ap (λ (l : List ℕ). onTape (writeRaw s reg l) b) (sym same)
 
-  not-none : length held ≡ 0 → ⊥
-  not-none z = omega arith
+  pub write-long : {log′ : List ℕ} {x : Ran (Answer Done)} → log′ ≡ b .log
+      → x ≡ onTape (writeRaw s reg held) (busOf (b .tape) log′ (b .at)) → x ≡ onTape (writeRaw s reg bytes) b
+  write-long e w = from-same (writeRaw s reg held) b e w ∙ as-given
 
-  pub write-checked : s .check ≡ true → frame ≡ writeFrame true (s .address) reg held
-      → ran (value tt) (b .tape) log′ at ≡ onTape (writeRaw s reg bytes) b
-  write-checked c is =
-      let as-told = is ∙ ap (λ (k : Bool). writeFrame k (s .address) reg held) (sym c) in
-      rw next (sent-well s reg held frame b ok few not-none within as-told sent c) ∙ as-given
+  module _ (frame : List ℕ) {log′ : List ℕ} {n : ℕ} {at : Cursor} (ok : sound s ≡ true)
+      (some : 1 ≤ length held) (few : length held ≤ 8) (within : reg + length held ≤ 256)
+      (sent : SentBy (write (s .address) frame) b (length frame) true log′)
+      (size : 4 + length frame ≡ n) (next : at ≡ onward (b .at) 3 n) where
+    not-none : length held ≡ 0 → ⊥
+    not-none z = omega arith
 
-  pub write-plain : {x : Ran (Answer Done)} → s .check ≡ false → frame ≡ writeFrame false (s .address) reg held
-      → x ≡ onTape (askBack (s .address) reg held) (busOf (b .tape) log′ at) → x ≡ onTape (writeRaw s reg bytes) b
-  write-plain c is w =
-      let as-told = is ∙ ap (λ (k : Bool). writeFrame k (s .address) reg held) (sym c) in
-      w
-      ∙ ap (λ (k : Cursor). onTape (askBack (s .address) reg held) (busOf (b .tape) log′ k)) next
-      ∙ sent-back s reg held frame b ok few not-none within as-told sent c
-      ∙ as-given
+    framed-as : {check : Bool} → s .check ≡ check → frame ≡ writeFrame check (s .address) reg held
+        → frame ≡ writeFrame (s .check) (s .address) reg held
+    framed-as c is = is ∙ ap (λ (k : Bool). writeFrame k (s .address) reg held) (sym c)
+
+    pub write-checked : s .check ≡ true → frame ≡ writeFrame true (s .address) reg held
+        → ran (value tt) (b .tape) log′ at ≡ onTape (writeRaw s reg bytes) b
+    write-checked c is =
+        rw (next, ← size) (sent-well s reg held frame b ok few not-none within (framed-as c is) sent c) ∙ as-given
+
+    pub write-plain : {x : Ran (Answer Done)} → s .check ≡ false → frame ≡ writeFrame false (s .address) reg held
+        → x ≡ onTape (askBack (s .address) reg held) (busOf (b .tape) log′ at) → x ≡ onTape (writeRaw s reg bytes) b
+    write-plain c is w =
+        w
+        ∙ ap (λ (k : Cursor). onTape (askBack (s .address) reg held) (busOf (b .tape) log′ k))
+        (next ∙ ap (onward (b .at) 3) (sym size))
+        ∙ sent-back s reg held frame b ok few not-none within (framed-as c is) sent c
+        ∙ as-given

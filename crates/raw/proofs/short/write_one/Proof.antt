@@ -1,98 +1,168 @@
+-- `raw::short::write_one` meets its contract: done by the short way, or by the long way with nothing touched before. Assumes nothing.
+use mathlib.Core.Path.{_≡_, refl, sym, ap, _∙_}
+use mathlib.Core.Bool.{Bool, true, and-eq-true-iff}
+use mathlib.Core.Logic.{_⊎_, inl, inr}
+use mathlib.Core.List.{List, [], _∷_}
+use Prim.Native.Nat.{ℕ, _+_, _≤_}
+use native.Mathlib.Omega.{arith}
+use lib.ListN.{length, getD}
+use denote.Ref.{now}
+use Rattle.bus.specs.Transfers.{write, Bus, busOf}
+use Rattle.bus.specs.Raw.{sound}
+use Rattle.raw.specs.Replies.{SentBy}
+use Rattle.raw.proofs.Quick.{one, is-sent, not-sent, reads-plain}
+use Rattle.raw.proofs.Writes.{one-checked, plain-frame, write-long, write-checked, write-plain}
 use borrow.Author.Needs.{needs}
 use Rattle.raw.proofs.short.write_one.Statement.{statement}
 use Rattle.raw.proofs.short.write_one.Tie as tie
-use Rattle.raw.proofs.short.write_one.Reads as reads
-use Rattle.raw.proofs.short.write_one.Lts as lts
-use Rattle.bus.proofs.link.Link.is_sound.Reads as is-sound-reads
-use Rattle.check_byte.proofs.check_byte3.Reads as check-byte3-reads
-use Rattle.raw.proofs.further.Reads as further-reads
-use Rattle.raw.proofs.short.back_one.Reads as back-one-reads
-use Rattle.raw.proofs.well.sent.Reads as sent-reads
-use Rattle.raw.proofs.write_raw.Reads as write-raw-reads
 
--- src/short.rt:137:9
+-- ---- what is given
+module _ (c : tie.After-struct-known) where
+  abbrev asked : tie.After-is-sound
+  asked = c .before .before .before
+
+  abbrev start : tie.Start
+  start = asked .before .before .before
+
+  abbrev bytes : List ℕ
+  bytes = now (start .args .«data»)
+
+  abbrev held : List ℕ
+  held = getD bytes 0 0 ∷ []
+
+  abbrev bus : Bus
+  bus = busOf (now (start .args .tape)) (now (start .args .log)) (start .args .at)
+
+  same : bytes ≡ held
+  same = one bytes (search needs)
+
+  is-sound : asked .is-sound .result ≡ true → sound (start .args .link) ≡ true
+  is-sound e = sym (asked .is-sound .ensures) ∙ e
+
+  within : start .args .reg + 1 ≤ 256
+  within = omega arith
+
+-- ---- the place before the long way
+abbrev at-joined : tie.After-write-raw → tie.Joined1
+at-joined c = c .before .before .before
+
+-- ---- nothing is touched where the long way begins
+untouched : (c : tie.Joined1) → c .if1 .log ≡ now (start (c .before) .args .log)
+untouched c =
+    elim (c .if1 .came) [
+      | inl (if1, check-byte3, frame, sent-arg, sent, log′, known, if2, l) ↦ l ∙ not-sent _ _ _ _ _ (if2 .left) (sent .ensures)
+      | inr (inl (if1, if3, frame2, sent-arg2, sent2, log2, known, if4, l)) ↦ l ∙ not-sent _ _ _ _ _ (if4 .left) (sent2 .ensures)
+      | inr (inr (if1, if3, l)) ↦ l
+    ]
+
+-- ---- sent by the short way, with check bytes and without
+module _ (c : tie.Then2) where
+  abbrev sent : tie.After-sent
+  sent = c .before .before .before
+
+  abbrev checked : tie.After-check-byte3
+  checked = sent .before .before .before
+
+  abbrev k : tie.After-struct-known
+  k = checked .before .before
+
+  abbrev frame : List ℕ
+  frame = start k .args .reg ∷ getD (bytes k) 0 0 ∷ checked .check-byte3 .result ∷ []
+
+  went : SentBy (write (start k .args .link .address) frame) (bus k) 3 true (sent .sent .last .1 .1 .1 .0)
+  went = is-sent _ _ _ _ _ (c .if2 .taken) (sent .sent .ensures)
+
+  with-check : (asked k .is-sound .result ≡ true) × (start k .args .link .check ≡ true)
+  with-check = and-eq-true-iff (asked k .is-sound .result) (start k .args .link .check) .0 (checked .before .if1 .taken)
+
+module _ (c : tie.Then4) where
+  abbrev sent-plain : tie.After-sent2
+  sent-plain = c .before .before .before
+
+  abbrev p : tie.Then3
+  p = sent-plain .before .before .before
+
+  abbrev q : tie.After-struct-known
+  q = p .before .before
+
+  went-plain : SentBy (write (start q .args .link .address) (start q .args .reg ∷ held q)) (bus q) 2 true
+      (sent-plain .sent2 .last .1 .1 .1 .0)
+  went-plain = is-sent _ _ _ _ _ (c .if4 .taken) (sent-plain .sent2 .ensures)
+
+-- ---- the needs
 is-sound-requires : tie.Need-is-sound-requires
 is-sound-requires c κs = search needs
 
--- src/short.rt:139:17
 shared-slice-read-t15 : tie.Need-shared-slice-read-t15
 shared-slice-read-t15 c = search needs
 
--- src/short.rt:141:27
 array-read-t19 : tie.Need-array-read-t19
 array-read-t19 c = search needs
 
--- src/short.rt:141:67
 array-read-check-byte3 : tie.Need-array-read-check-byte3
 array-read-check-byte3 c = search needs
 
--- src/short.rt:141:36
 check-byte3-requires : tie.Need-check-byte3-requires
 check-byte3-requires c κs = search needs
 
--- src/short.rt:142:32
 slice-aggregate-sent : tie.Need-slice-aggregate-sent
 slice-aggregate-sent c = search needs
 
--- src/short.rt:142:12
 sent-requires : tie.Need-sent-requires
 sent-requires c κs = search needs
 
--- src/short.rt:145:21
 further-requires : tie.Need-further-requires
-further-requires c κs = ?
+further-requires c κs = (omega (arith, went c .1 .0), omega (arith, went c .1 .1))
 
--- src/short.rt:143:13
 same-length : tie.Need-same-length
 same-length c = search needs
 
--- src/short.rt:143:13
 returns : tie.Need-returns
-returns c = ?
+returns c =
+    let t = c .before in
+    write-checked _ _ _ (held (k t)) (bus (k t)) (same (k t)) (frame t) (is-sound (k t) (with-check t .0)) (omega arith) (omega arith)
+    (within (k t)) (went t) refl (c .further .ensures) (with-check t .1) (one-checked _ _ _ _ (checked t .check-byte3 .ensures))
 
--- src/short.rt:149:27
 array-read-t35 : tie.Need-array-read-t35
 array-read-t35 c = search needs
 
--- src/short.rt:150:32
 slice-aggregate-sent-2 : tie.Need-slice-aggregate-sent-2
 slice-aggregate-sent-2 c = search needs
 
--- src/short.rt:150:12
 sent-requires-2 : tie.Need-sent-requires-2
 sent-requires-2 c κs = search needs
 
--- src/short.rt:151:60
 further-requires-2 : tie.Need-further-requires-2
-further-requires-2 c κs = ?
+further-requires-2 c κs = (omega (arith, went-plain (c .before) .1 .0), omega (arith, went-plain (c .before) .1 .1))
 
--- src/short.rt:151:13
 back-one-requires : tie.Need-back-one-requires
 back-one-requires c κs = search needs
 
--- src/short.rt:151:13
 same-length-2 : tie.Need-same-length-2
 same-length-2 c = search needs
 
--- src/short.rt:151:13
 returns-2 : tie.Need-returns-2
-returns-2 c = ?
+returns-2 c =
+    let f = c .before .before .before in
+    let t = f .before .before in
+    write-plain _ _ _ (held (q t)) (bus (q t)) (same (q t)) (start (q t) .args .reg ∷ held (q t)) (is-sound (q t) (p t .if3 .taken))
+    (omega arith) (omega arith) (within (q t)) (went-plain t) refl (f .further2 .ensures)
+    (reads-plain _ _ (p t .before .if1 .left) (p t .if3 .taken)) (plain-frame _ _ _) (c .before .before .back-one .ensures)
 
--- src/short.rt:154:33
 slice-aggregate-write-raw : tie.Need-slice-aggregate-write-raw
 slice-aggregate-write-raw c = search needs
 
--- src/short.rt:154:5
 write-raw-requires : tie.Need-write-raw-requires
 write-raw-requires c κs = search needs
 
--- src/short.rt:126:1
 same-length-3 : tie.Need-same-length-3
-same-length-3 c = ?
+same-length-3 c =
+    c .before .before .write-raw .kept .1 .1 .1 .1 .0 ∙ ap length (untouched (at-joined (c .before .before)))
 
--- src/short.rt:126:1
 returns-3 : tie.Need-returns-3
-returns-3 c = ?
+returns-3 c =
+    let j = at-joined (c .before .before) in
+    write-long _ _ _ (held (j .before)) (bus (j .before)) (same (j .before)) (untouched j) (c .before .before .write-raw .ensures)
 
 pub write-one-spec : {M : Type 1} → statement M
 write-one-spec =
