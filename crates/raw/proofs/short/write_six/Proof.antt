@@ -1,130 +1,207 @@
+-- `raw::short::write_six` meets its contract: done by the short way, or by the long way with nothing touched before. Assumes nothing.
+use mathlib.Core.Path.{_≡_, refl, sym, ap, _∙_}
+use mathlib.Core.Bool.{Bool, true, _&&_, and-eq-true-iff}
+use mathlib.Core.Logic.{inl, inr}
+use mathlib.Core.List.{List, [], _∷_}
+use Prim.Native.Nat.{ℕ, _+_, _≤_}
+use native.Mathlib.Omega.{arith}
+use lib.Dec.{leb}
+use lib.ListN.{length, getD}
+use borrow.Author.Tests.{leb-true}
+use denote.Ref.{now}
+use Rattle.bus.specs.Transfers.{write, Bus, busOf}
+use Rattle.bus.specs.Raw.{sound}
+use Rattle.raw.specs.Replies.{SentBy}
+use Rattle.raw.proofs.Quick.{is-sent, not-sent, reads-plain}
+use Rattle.raw.proofs.Writes.{six, plain-frame, write-long, write-checked, write-plain}
 use borrow.Author.Needs.{needs}
 use Rattle.raw.proofs.short.write_six.Statement.{statement}
 use Rattle.raw.proofs.short.write_six.Tie as tie
-use Rattle.raw.proofs.short.write_six.Reads as reads
-use Rattle.raw.proofs.short.write_six.Lts as lts
-use Rattle.bus.proofs.link.Link.is_sound.Reads as is-sound-reads
-use Rattle.raw.proofs.further.Reads as further-reads
-use Rattle.raw.proofs.short.back_six.Reads as back-six-reads
-use Rattle.raw.proofs.short.six_checked.Reads as six-checked-reads
-use Rattle.raw.proofs.well.sent.Reads as sent-reads
-use Rattle.raw.proofs.write_raw.Reads as write-raw-reads
 
--- src/short.rt:182:17
+-- ---- what is given
+module _ (c : tie.After-struct-known) where
+  abbrev read : tie.After-shared-slice-known4
+  read = c .before .before .before .before
+
+  abbrev asked : tie.After-is-sound
+  asked = read .before .before .before .before
+
+  abbrev start : tie.Start
+  start = asked .before .before .before
+
+  abbrev bytes : List ℕ
+  bytes = now (start .args .«data»)
+
+  abbrev held : List ℕ
+  held = getD bytes 0 0 ∷ getD bytes 1 0 ∷ getD bytes 2 0 ∷ getD bytes 3 0 ∷ getD bytes 4 0 ∷ getD bytes 5 0 ∷ []
+
+  abbrev bus : Bus
+  bus = busOf (now (start .args .tape)) (now (start .args .log)) (start .args .at)
+
+  same : bytes ≡ held
+  same = six bytes (search needs)
+
+  -- the code's one test for both
+  abbrev fit : Bool
+  fit = asked .is-sound .result && leb (start .args .reg) 250
+
+  is-sound : fit ≡ true → sound (start .args .link) ≡ true
+  is-sound e =
+      sym (asked .is-sound .ensures) ∙ and-eq-true-iff (asked .is-sound .result) (leb (start .args .reg) 250) .0 e .0
+
+  within : fit ≡ true → start .args .reg + 6 ≤ 256
+  within e =
+      let few = and-eq-true-iff (asked .is-sound .result) (leb (start .args .reg) 250) .0 e .1 in
+      omega (arith, leb-true (start .args .reg) 250 few)
+
+-- ---- the place before the long way
+abbrev at-joined : tie.After-write-raw → tie.Joined1
+at-joined c = c .before .before .before
+
+-- ---- nothing is touched where the long way begins
+untouched : (c : tie.Joined1) → c .if1 .log ≡ now (start (c .before) .args .log)
+untouched c =
+    elim (c .if1 .came) [
+      | inl (if1, six-checked, frame, sent-arg, sent, log′, known, if2, l) ↦ l ∙ not-sent _ _ _ _ _ (if2 .left) (sent .ensures)
+      | inr (inl (if1, if3, frame2, sent-arg2, sent2, log2, known, if4, l)) ↦ l ∙ not-sent _ _ _ _ _ (if4 .left) (sent2 .ensures)
+      | inr (inr (if1, if3, l)) ↦ l
+    ]
+
+-- ---- sent by the short way, with check bytes and without
+module _ (c : tie.Then2) where
+  abbrev sent : tie.After-sent
+  sent = c .before .before .before
+
+  abbrev checked : tie.After-six-checked
+  checked = sent .before .before .before
+
+  abbrev k : tie.After-struct-known
+  k = checked .before .before
+
+  abbrev frame : List ℕ
+  frame = checked .six-checked .result
+
+  size : 4 + length frame ≡ 17
+  size = search needs
+
+  went : SentBy (write (start k .args .link .address) frame) (bus k) (length frame) true (sent .sent .last .1 .1 .1 .0)
+  went = is-sent _ _ _ _ _ (c .if2 .taken) (sent .sent .ensures)
+
+  with-check : (fit k ≡ true) × (start k .args .link .check ≡ true)
+  with-check = and-eq-true-iff (fit k) (start k .args .link .check) .0 (checked .before .if1 .taken)
+
+module _ (c : tie.Then4) where
+  abbrev sent-plain : tie.After-sent2
+  sent-plain = c .before .before .before
+
+  abbrev p : tie.Then3
+  p = sent-plain .before .before .before
+
+  abbrev q : tie.After-struct-known
+  q = p .before .before
+
+  went-plain : SentBy (write (start q .args .link .address) (start q .args .reg ∷ held q)) (bus q) 7 true
+      (sent-plain .sent2 .last .1 .1 .1 .0)
+  went-plain = is-sent _ _ _ _ _ (c .if4 .taken) (sent-plain .sent2 .ensures)
+
+-- ---- the needs
 is-sound-requires : tie.Need-is-sound-requires
 is-sound-requires c κs = search needs
 
--- src/short.rt:184:17
 shared-slice-read-t17 : tie.Need-shared-slice-read-t17
 shared-slice-read-t17 c = search needs
 
--- src/short.rt:184:27
 shared-slice-read-t19 : tie.Need-shared-slice-read-t19
 shared-slice-read-t19 c = search needs
 
--- src/short.rt:184:37
 shared-slice-read-t21 : tie.Need-shared-slice-read-t21
 shared-slice-read-t21 c = search needs
 
--- src/short.rt:184:47
 shared-slice-read-t23 : tie.Need-shared-slice-read-t23
 shared-slice-read-t23 c = search needs
 
--- src/short.rt:184:57
 shared-slice-read-t25 : tie.Need-shared-slice-read-t25
 shared-slice-read-t25 c = search needs
 
--- src/short.rt:184:67
 shared-slice-read-t27 : tie.Need-shared-slice-read-t27
 shared-slice-read-t27 c = search needs
 
--- src/short.rt:186:21
 six-checked-requires : tie.Need-six-checked-requires
 six-checked-requires c κs = search needs
 
--- src/short.rt:187:32
 slice-aggregate-sent : tie.Need-slice-aggregate-sent
 slice-aggregate-sent c = search needs
 
--- src/short.rt:187:12
 sent-requires : tie.Need-sent-requires
 sent-requires c κs = search needs
 
--- src/short.rt:190:21
 further-requires : tie.Need-further-requires
-further-requires c κs = ?
+further-requires c κs = (omega (arith, went c .1 .0), omega (arith, size c, went c .1 .1))
 
--- src/short.rt:188:13
 same-length : tie.Need-same-length
 same-length c = search needs
 
--- src/short.rt:188:13
 returns : tie.Need-returns
-returns c = ?
+returns c =
+    let t = c .before in
+    write-checked _ _ _ (held (k t)) (bus (k t)) (same (k t)) (frame t) (is-sound (k t) (with-check t .0)) (omega arith) (omega arith)
+    (within (k t) (with-check t .0)) (went t) (size t) (c .further .ensures) (with-check t .1) (checked t .six-checked .ensures)
 
--- src/short.rt:194:27
 array-read-t40 : tie.Need-array-read-t40
 array-read-t40 c = search needs
 
--- src/short.rt:194:36
 array-read-t43 : tie.Need-array-read-t43
 array-read-t43 c = search needs
 
--- src/short.rt:194:45
 array-read-t46 : tie.Need-array-read-t46
 array-read-t46 c = search needs
 
--- src/short.rt:194:54
 array-read-t49 : tie.Need-array-read-t49
 array-read-t49 c = search needs
 
--- src/short.rt:194:63
 array-read-t52 : tie.Need-array-read-t52
 array-read-t52 c = search needs
 
--- src/short.rt:194:72
 array-read-t55 : tie.Need-array-read-t55
 array-read-t55 c = search needs
 
--- src/short.rt:195:32
 slice-aggregate-sent-2 : tie.Need-slice-aggregate-sent-2
 slice-aggregate-sent-2 c = search needs
 
--- src/short.rt:195:12
 sent-requires-2 : tie.Need-sent-requires-2
 sent-requires-2 c κs = search needs
 
--- src/short.rt:196:60
 further-requires-2 : tie.Need-further-requires-2
-further-requires-2 c κs = ?
+further-requires-2 c κs = (omega (arith, went-plain (c .before) .1 .0), omega (arith, went-plain (c .before) .1 .1))
 
--- src/short.rt:196:13
 back-six-requires : tie.Need-back-six-requires
-back-six-requires c κs = ?
+back-six-requires c κs = let t = c .before .before in within (q t) (p t .if3 .taken)
 
--- src/short.rt:196:13
 same-length-2 : tie.Need-same-length-2
 same-length-2 c = search needs
 
--- src/short.rt:196:13
 returns-2 : tie.Need-returns-2
-returns-2 c = ?
+returns-2 c =
+    let f = c .before .before .before in
+    let t = f .before .before in
+    write-plain _ _ _ (held (q t)) (bus (q t)) (same (q t)) (start (q t) .args .reg ∷ held (q t)) (is-sound (q t) (p t .if3 .taken))
+    (omega arith) (omega arith) (within (q t) (p t .if3 .taken)) (went-plain t) refl (f .further2 .ensures)
+    (reads-plain _ _ (p t .before .if1 .left) (p t .if3 .taken)) (plain-frame _ _ _) (c .before .before .back-six .ensures)
 
--- src/short.rt:199:33
 slice-aggregate-write-raw : tie.Need-slice-aggregate-write-raw
 slice-aggregate-write-raw c = search needs
 
--- src/short.rt:199:5
 write-raw-requires : tie.Need-write-raw-requires
 write-raw-requires c κs = search needs
 
--- src/short.rt:171:1
 same-length-3 : tie.Need-same-length-3
-same-length-3 c = ?
+same-length-3 c =
+    c .before .before .write-raw .kept .1 .1 .1 .1 .0 ∙ ap length (untouched (at-joined (c .before .before)))
 
--- src/short.rt:171:1
 returns-3 : tie.Need-returns-3
-returns-3 c = ?
+returns-3 c =
+    let j = at-joined (c .before .before) in
+    write-long _ _ _ (held (j .before)) (bus (j .before)) (same (j .before)) (untouched j) (c .before .before .write-raw .ensures)
 
 pub write-six-spec : {M : Type 1} → statement M
 write-six-spec =
