@@ -1,41 +1,35 @@
 // The moves of the crate's `cell_voltages`, in its order: by X and the count alone, one cell goes over another.
 ghost use mathlib.Core.Path.{_≡_};
-ghost use Prim.Native.Nat.{_<_};
-ghost use Rattle.moves.specs.Moves.{movedIf, moves, inTurn};
-use units::MilliVolts;
+ghost use mathlib.Core.List.{map};
+ghost use Rattle.moves.specs.Moves.{moves, inTurn, named};
 
-// `!first` is the Rust's `else`. With 15 cells nothing moves, and no test below is made.
-pub fn in_turn(x: u8, cell_count: u8, cells: [MilliVolts; 15]) -> [MilliVolts; 15]
-    ensures { λ r. ⌜ r ≡ inTurn (moves x «cell_count») cells ⌝ }
+// In place, on the cells' numbers. With 15 cells nothing moves, and no test below is made.
+pub fn in_turn(x: u8, cell_count: u8, cells: &mut [u32; 16])
+    ensures { λ _. ⌜ map named (now (cells .exit)) ≡ inTurn (moves x «cell_count») (map named (now (cells .entry))) ⌝ }
 {
     let cc = cell_count;
     if cc == 15 {
-        return cells;
+        return;
     }
-    let first = (cc == 3) | (cc == 6) | (cc == 9);
-    let cells = moved(first, 2, 4, cells);
-    let second = (cc == 4) | (cc == 7) | (cc == 8) | (cc == 10) | (cc == 11) | (cc == 12);
-    let cells = moved(!first & second, 3, 4, cells);
-    let two_blocks = (x == sizes::BQ76930) | (x == sizes::BQ76940);
-    let third = (cc == 6) | (cc == 7) | (cc == 9) | (cc == 10);
-    let cells = moved(two_blocks & third, 7, 9, cells);
-    let fourth = (cc == 8) | (cc == 9) | (cc == 11) | (cc == 12) | (cc == 13);
-    let cells = moved(two_blocks & fourth, 8, 9, cells);
-    let three_blocks = x == sizes::BQ76940;
-    let fifth = (cc == 9) | (cc == 10) | (cc == 11);
-    let cells = moved(three_blocks & fifth, 12, 14, cells);
-    let sixth = (cc == 12) | (cc == 13) | (cc == 14);
-    moved(three_blocks & sixth, 13, 14, cells)
-}
-
-fn moved(when: bool, to: usize, from: usize, cells: [MilliVolts; 15]) -> [MilliVolts; 15]
-    requires { ⌜ (to < 15) × (from < 15) ⌝ }
-    ensures { λ r. ⌜ r ≡ movedIf when to from cells ⌝ }
-{
-    let mut out = cells;
-    if when {
-        let cell = out[from];
-        out[to] = cell;
+    if (cc == 3) | (cc == 6) | (cc == 9) {
+        cells[2] = cells[4];
+    } else if (cc == 4) | (cc == 7) | (cc == 8) | (cc == 10) | (cc == 11) | (cc == 12) {
+        cells[3] = cells[4];
     }
-    out
+    if (x == sizes::BQ76930) | (x == sizes::BQ76940) {
+        if (cc == 6) | (cc == 7) | (cc == 9) | (cc == 10) {
+            cells[7] = cells[9];
+        }
+        if (cc == 8) | (cc == 9) | (cc == 11) | (cc == 12) | (cc == 13) {
+            cells[8] = cells[9];
+        }
+    }
+    if x == sizes::BQ76940 {
+        if (cc == 9) | (cc == 10) | (cc == 11) {
+            cells[12] = cells[14];
+        }
+        if (cc == 12) | (cc == 13) | (cc == 14) {
+            cells[13] = cells[14];
+        }
+    }
 }

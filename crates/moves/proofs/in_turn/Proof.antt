@@ -1,17 +1,21 @@
 -- `moves::in_turn` meets its contract. Assumes nothing.
-use mathlib.Core.Path.{_≡_, refl, sym}
+use mathlib.Core.Path.{_≡_, refl, sym, ap, _∙_}
 use mathlib.Core.Bool.{Bool, true, false, _&&_, _||_}
-use mathlib.Core.List.{List, [], _∷_}
+use mathlib.Core.List.{List, [], _∷_, map}
+use mathlib.Core.Logic.{⊎-elim}
 use Prim.Native.Nat.{ℕ}
 use lib.Dec.{eqb}
-use lib.ListN.{getD}
+use lib.ListN.{take, getD, set, List·getD-map}
+use denote.Ref.{now}
+use borrow.Author.Tests.{eq-eqb, ne-eqb}
 use Rattle.units.specs.declared.MilliVolts.{MilliVolts}
-use Rattle.moves.specs.Moves.{Move, move, moves, movedIf, inTurn}
+use Rattle.laws.proofs.Lists.{map-set}
+use Rattle.moves.specs.Moves.{Move, move, moves, movedIf, inTurn, named}
 use borrow.Author.Needs.{needs}
 use Rattle.moves.proofs.in_turn.Statement.{statement}
 use Rattle.moves.proofs.in_turn.Tie as tie
 
--- 15 is none of the counts: no move is made, whatever the device
+-- ---- 15 is none of the counts: no move is made, whatever the device
 abbrev none : Bool → Bool → List Move
 none two three =
     move false 2 4 ∷
@@ -28,75 +32,167 @@ idle true false cells = refl
 idle false true cells = refl
 idle false false cells = refl
 
--- each call is made on the cells that the one before it left
+-- ---- one move, by its test: the numbers were k, and are l then
+module _ (to from : ℕ) (k : List ℕ) {m : List MilliVolts} (so-far : map named k ≡ m) {t : Bool} {l : List ℕ} where
+  made : t ≡ true → l ≡ set k to (getD k from 0) → map named l ≡ movedIf t to from m
+  made e stored =
+      let there = map-set named k to (getD k from 0) ∙ ap (set (map named k) to) (sym (List·getD-map named k from 0)) in
+      rw (e, stored, sym so-far) there
+
+  unmade : t ≡ false → l ≡ k → map named l ≡ movedIf t to from m
+  unmade e same = rw (e, same, sym so-far)
+
+-- ---- the cells after the first n moves, and whether a move is made
 module _ (s : tie.Start) where
+  abbrev numbers : List ℕ
+  numbers = now (s .args .cells)
+
   abbrev all : List Move
   all = moves (s .args .x) (s .args .cell-count)
 
-  -- whether the k-th move is made, from 0
+  abbrev after : ℕ → List MilliVolts
+  after n = inTurn (take n all) (map named numbers)
+
   abbrev when : ℕ → Bool
   when k = getD all k (move false 0 0) .when
 
-  one-by-one : {l₁ l₂ l₃ l₄ l₅ l₆ : List MilliVolts}
-      → l₁ ≡ movedIf (when 0) 2 4 (s .args .cells)
-      → l₂ ≡ movedIf (when 1) 3 4 l₁
-      → l₃ ≡ movedIf (when 2) 7 9 l₂
-      → l₄ ≡ movedIf (when 3) 8 9 l₃
-      → l₅ ≡ movedIf (when 4) 12 14 l₄
-      → l₆ ≡ movedIf (when 5) 13 14 l₅
-      → l₆ ≡ inTurn all (s .args .cells)
-  one-by-one e₁ e₂ e₃ e₄ e₅ e₆ = rw (e₆, e₅, e₄, e₃, e₂, e₁)
+both : {a b : Bool} → a ≡ true → b ≡ true → (a && b) ≡ true
+both e f = rw (e, f)
 
--- ---- the places
-abbrev at-third : tie.After-moved6 → tie.After-moved3
-at-third c = c .before .before .before
+but-not : {a b : Bool} → a ≡ true → b ≡ false → (a && b) ≡ false
+but-not e f = rw (e, f)
 
-abbrev at-start : tie.After-moved3 → tie.Start
-at-start c = c .before .before .before .before
+-- ---- where the branches meet
+module _ (c : tie.Joined2) where
+  abbrev start : tie.Start
+  start = c .before .before
+
+  by-first-block : map named (c .if2 .cells) ≡ after start 2
+  by-first-block =
+      ⊎-elim
+      (λ w. rw (w .0 .taken) (made 2 4 (numbers start) refl refl (w .2)))
+      (⊎-elim
+      (λ w. rw (w .0 .left, w .1 .taken) (made 3 4 (numbers start) refl refl (w .3)))
+      (λ w. rw (w .0 .left, w .1 .left) (ap (map named) (w .2))))
+      (c .if2 .came)
+
+module _ (c : tie.Joined5) where
+  abbrev two : tie.Then4
+  two = c .before
+
+  by-third : map named (c .if5 .cells) ≡ after (start (two .before)) 3
+  by-third =
+      ⊎-elim
+      (λ w. made 7 9 (two .before .if2 .cells) (by-first-block (two .before)) (both (two .if4 .taken) (w .0 .taken)) (w .2))
+      (λ w. unmade 7 9 (two .before .if2 .cells) (by-first-block (two .before)) (but-not (two .if4 .taken) (w .0 .left)) (w .1))
+      (c .if5 .came)
+
+-- a device of one block makes neither move
+one-block : (c : tie.Else4) → map named (c .before .if2 .cells) ≡ after (start (c .before)) 4
+one-block c =
+    let unmade-3 : when (start (c .before)) 2 ≡ false = rw (c .if4 .left) in
+    let unmade-4 : when (start (c .before)) 3 ≡ false = rw (c .if4 .left) in
+    unmade 8 9 (c .before .if2 .cells) (unmade 7 9 (c .before .if2 .cells) (by-first-block (c .before)) unmade-3 refl) unmade-4 refl
+
+module _ (c : tie.Joined4) where
+  by-second-block : map named (c .if4 .cells) ≡ after (start (c .before)) 4
+  by-second-block =
+      ⊎-elim
+      (λ w. made 8 9 (w .1 .cells) (by-third (record { before = record { before = c .before; if4 = w .0 }; if5 = w .1 })) (both (w .0 .taken) (w .2 .taken)) (w .4))
+      (⊎-elim
+      (λ w. unmade 8 9 (w .1 .cells) (by-third (record { before = record { before = c .before; if4 = w .0 }; if5 = w .1 })) (but-not (w .0 .taken) (w .2 .left)) (w .3))
+      (λ w. ap (map named) (w .1) ∙ one-block (record { before = c .before; if4 = w .0 })))
+      (c .if4 .came)
+
+module _ (c : tie.Joined8) where
+  abbrev three : tie.Then7
+  three = c .before
+
+  abbrev fits : eqb (start (three .before .before) .args .x) 15 ≡ true
+  fits = eq-eqb _ 15 (three .if7 .taken)
+
+  by-fifth : map named (c .if8 .cells) ≡ after (start (three .before .before)) 5
+  by-fifth =
+      ⊎-elim
+      (λ w. made 12 14 (three .before .if4 .cells) (by-second-block (three .before)) (both fits (w .0 .taken)) (w .2))
+      (λ w. unmade 12 14 (three .before .if4 .cells) (by-second-block (three .before)) (but-not fits (w .0 .left)) (w .1))
+      (c .if8 .came)
 
 -- ---- the needs
 returns : tie.Need-returns
 returns c =
     let a = c .before .args in
-    rw (c .if1 .taken) (sym (idle (eqb (a .x) 10 || eqb (a .x) 15) (eqb (a .x) 15) (a .cells)))
+    rw (c .if1 .taken) (sym (idle (eqb (a .x) 10 || eqb (a .x) 15) (eqb (a .x) 15) (map named (now (a .cells)))))
 
-moved-requires : tie.Need-moved-requires
-moved-requires c κs = search needs
+element-copy-out-cells : tie.Need-element-copy-out-cells
+element-copy-out-cells c = search needs
 
-moved-requires-2 : tie.Need-moved-requires-2
-moved-requires-2 c κs = search needs
+element-write-cells : tie.Need-element-write-cells
+element-write-cells c = search needs
 
-moved-requires-3 : tie.Need-moved-requires-3
-moved-requires-3 c κs = search needs
+element-copy-out-cells-2 : tie.Need-element-copy-out-cells-2
+element-copy-out-cells-2 c = search needs
 
-moved-requires-4 : tie.Need-moved-requires-4
-moved-requires-4 c κs = search needs
+element-write-cells-2 : tie.Need-element-write-cells-2
+element-write-cells-2 c = search needs
 
-moved-requires-5 : tie.Need-moved-requires-5
-moved-requires-5 c κs = search needs
+element-copy-out-cells-3 : tie.Need-element-copy-out-cells-3
+element-copy-out-cells-3 c = search needs
 
-moved-requires-6 : tie.Need-moved-requires-6
-moved-requires-6 c κs = search needs
+element-write-cells-3 : tie.Need-element-write-cells-3
+element-write-cells-3 c = search needs
+
+element-copy-out-cells-4 : tie.Need-element-copy-out-cells-4
+element-copy-out-cells-4 c = search needs
+
+element-write-cells-4 : tie.Need-element-write-cells-4
+element-write-cells-4 c = search needs
+
+element-copy-out-cells-5 : tie.Need-element-copy-out-cells-5
+element-copy-out-cells-5 c = search needs
+
+element-write-cells-5 : tie.Need-element-write-cells-5
+element-write-cells-5 c = search needs
+
+element-copy-out-cells-6 : tie.Need-element-copy-out-cells-6
+element-copy-out-cells-6 c = search needs
+
+element-write-cells-6 : tie.Need-element-write-cells-6
+element-write-cells-6 c = search needs
 
 returns-2 : tie.Need-returns-2
 returns-2 c =
-    one-by-one (at-start (at-third c))
-    (at-third c .before .before .moved .ensures)
-    (at-third c .before .moved2 .ensures)
-    (at-third c .moved3 .ensures)
-    (c .before .before .moved4 .ensures)
-    (c .before .moved5 .ensures)
-    (c .moved6 .ensures)
+    let met = c .before .before in
+    made 13 14 (met .if8 .cells) (by-fifth met) (both (fits met) (c .before .if9 .taken)) refl
+
+returns-3 : tie.Need-returns-3
+returns-3 c = unmade 13 14 (c .before .if8 .cells) (by-fifth (c .before)) (but-not (fits (c .before)) (c .if9 .left)) refl
+
+-- a device of two blocks makes neither move
+returns-4 : tie.Need-returns-4
+returns-4 c =
+    let k = c .before .if4 .cells in
+    let unmade-5 : when (start (c .before .before)) 4 ≡ false = rw (ne-eqb _ 15 (c .if7 .left)) in
+    let unmade-6 : when (start (c .before .before)) 5 ≡ false = rw (ne-eqb _ 15 (c .if7 .left)) in
+    unmade 13 14 k (unmade 12 14 k (by-second-block (c .before)) unmade-5 refl) unmade-6 refl
 
 pub in-turn-spec : {M : Type 1} → statement M
 in-turn-spec =
     tie.close
     (tie.spec
     returns
-    moved-requires
-    moved-requires-2
-    moved-requires-3
-    moved-requires-4
-    moved-requires-5
-    moved-requires-6
-    returns-2)
+    element-copy-out-cells
+    element-write-cells
+    element-copy-out-cells-2
+    element-write-cells-2
+    element-copy-out-cells-3
+    element-write-cells-3
+    element-copy-out-cells-4
+    element-write-cells-4
+    element-copy-out-cells-5
+    element-write-cells-5
+    element-copy-out-cells-6
+    element-write-cells-6
+    returns-2
+    returns-3
+    returns-4)
