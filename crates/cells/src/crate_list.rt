@@ -1,7 +1,9 @@
 // The cells by the crate's list: read, stored in the record, and filled into the caller's list.
 ghost use mathlib.Core.Path.{_≡_};
 ghost use Prim.Native.Nat.{_≤_};
-ghost use lib.ListN.{length};
+ghost use mathlib.Core.Bool.{true};
+ghost use lib.ListN.{length, take};
+ghost use Rattle.bq769x0.specs.Record.{isSound};
 ghost use Rattle.laws.specs.Over.{_over_};
 ghost use Rattle.bus.specs.Lent.{does};
 ghost use Rattle.bus.specs.Raw.{asRaw};
@@ -40,7 +42,7 @@ pub fn cell_voltages(
 
 // On a record and a list that pass the tests; where the read is refused nothing of either is touched.
 fn read_cells(device: BQ769x0, list: &mut [u32], tape: &[u8], log: &mut [u8], at: Cursor) -> Cells
-    requires { ⌜ (device .link .x ≤ 15) × (device .«cell_count» ≤ 15) ⌝ }
+    requires { ⌜ isSound device ≡ true ⌝ }
     requires { ⌜ device .«cell_count» ≤ length (now list) ⌝ }
     ensures { λ r. ⌜ does (readCells device (now (list .entry))) tape log at
         (filled (asRaw (r .answer)) (r .device) (now (list .exit))) (r .at) ⌝ }
@@ -48,10 +50,9 @@ fn read_cells(device: BQ769x0, list: &mut [u32], tape: &[u8], log: &mut [u8], at
     let link = device.link;
     let x = link.x;
     let cell_count = device.cell_count;
-    let held = device.readings.cells;
-    let read = inputs::read_inputs(link, device.adc, tape, log, at);
+    let mut inputs = [0u32; 16];
+    let read = inputs::read_inputs(link, device.adc, &mut inputs, tape, log, at);
     let answer = read.answer;
-    let millivolts = read.millivolts;
     let next = read.at;
     let RawAnswer::Done = answer else {
         return Cells {
@@ -60,13 +61,27 @@ fn read_cells(device: BQ769x0, list: &mut [u32], tape: &[u8], log: &mut [u8], at
             at: next,
         };
     };
-    let cells = moves::in_turn(x, cell_count, crate::stored(x as usize, millivolts, held));
-    fill(cell_count as usize, cells, list);
+    moves::in_turn(x, cell_count, &mut inputs);
+    list_first(cell_count as usize, &inputs, list);
+    let held = device.readings.cells;
+    let cells = crate::stored(x as usize, &inputs, held);
     let readings = Readings { cells };
     Cells {
         answer,
         device: device.store_readings(readings),
         at: next,
+    }
+}
+
+// The first n inputs, over the list's first n.
+fn list_first(n: usize, inputs: &[u32; 16], list: &mut [u32])
+    requires { ⌜ (n ≤ 15) × (n ≤ length (now inputs)) × (n ≤ length (now list)) ⌝ }
+    ensures { λ _. ⌜ now (list .exit) ≡ take n (now (inputs .entry)) over now (list .entry) ⌝ }
+{
+    let mut i = 0;
+    while i < n {
+        list[i] = inputs[i];
+        i += 1;
     }
 }
 

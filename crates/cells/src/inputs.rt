@@ -1,84 +1,71 @@
 // All of the chip's inputs, read at once and converted to millivolts.
 ghost use mathlib.Core.Path.{_≡_};
-ghost use Prim.Native.Nat.{_*_, _≤_};
-ghost use lib.IntN.{pos};
-ghost use lib.ListN.{length, replicate, take};
-ghost use Rattle.refusals.specs.Refusal.{answering};
-ghost use Rattle.bus.specs.Lent.{does};
-ghost use Rattle.bus.specs.Raw.{asRaw};
-ghost use Rattle.laws.specs.Over.{_over_};
-ghost use Rattle.procedure.specs.Inputs.{converted, readInputs};
+ghost use Prim.Native.Nat.{_+_, _≤_};
+ghost use lib.ListN.{length};
+ghost use Rattle.numbers.specs.Numbers.{word};
+ghost use Rattle.adc.specs.Conversion.{millivolts};
+ghost use Rattle.bus.specs.Lent.{lentBus};
+ghost use Rattle.cells.specs.Taken.{Held, Taken};
 use adc::transfer::AdcTransferFunction;
 use bus::Cursor;
 use bus::link::Link;
+use bus::link::Raw;
 use bus::link::RawAnswer;
 
-// The first X numbers are the inputs'.
-pub(crate) struct Inputs {
-    pub answer: RawAnswer,
-    pub millivolts: [i32; 15],
-    pub at: Cursor,
-}
-
+// The first X of the cells are the inputs' then.
 pub(crate) fn read_inputs(
     link: Link,
     adc: AdcTransferFunction,
+    cells: &mut [u32; 16],
     tape: &[u8],
     log: &mut [u8],
     at: Cursor,
-) -> Inputs
-    requires { ⌜ link .x ≤ 15 ⌝ }
-    ensures { λ r. ⌜ does (readInputs link adc) tape log at
-        (answering (asRaw (r .answer)) (take (link .x) (r .millivolts))) (r .at) ⌝ }
+) -> Raw
+    requires { ⌜ (link .x ≤ 15) × (adc .gain ≤ 396) × (length (now cells) ≡ 16) ⌝ }
+    ensures { λ r. ⌜ Taken link adc (lentBus tape log at) r (now (cells .exit)) (now (log .exit)) ⌝ }
 {
-    let mut buf = [0u8; 30];
+    let mut buf = [0u8; 32];
     let n = 2 * (link.x as usize);
-    read_into(link, adc, &mut buf[..n], tape, log, at)
+    let read = raw::read_raw(link, 0x0c, &mut buf[..n], tape, log, at);
+    let answer = read.answer;
+    let RawAnswer::Done = answer else {
+        return read;
+    };
+    convert(adc, link.x as usize, &buf, cells);
+    read
 }
 
-// The read into a zeroed buffer of 2X bytes.
-fn read_into(
-    link: Link,
-    adc: AdcTransferFunction,
-    buf: &mut [u8],
-    tape: &[u8],
-    log: &mut [u8],
-    at: Cursor,
-) -> Inputs
-    requires { ⌜ link .x ≤ 15 ⌝ }
-    requires { ⌜ now buf ≡ replicate (2 * link .x) 0 ⌝ }
-    ensures { λ r. ⌜ does (readInputs link adc) tape log at
-        (answering (asRaw (r .answer)) (take (link .x) (r .millivolts))) (r .at) ⌝ }
+// The first n inputs of the bytes, eight at a time.
+fn convert(adc: AdcTransferFunction, n: usize, buf: &[u8; 32], cells: &mut [u32; 16])
+    requires { ⌜ (n ≤ 15) × (adc .gain ≤ 396) ⌝ }
+    requires { ⌜ Held adc (now buf) 0 (now cells) ⌝ }
+    ensures { λ _. ⌜ Held adc (now (buf .entry)) n (now (cells .exit)) ⌝ }
 {
-    let read = raw::read_raw(link, 0x0c, buf, tape, log, at);
-    let answer = read.answer;
-    let next = read.at;
-    let RawAnswer::Done = answer else {
-        return Inputs {
-            answer,
-            millivolts: [0i32; 15],
-            at: next,
-        };
-    };
-    Inputs {
-        answer,
-        millivolts: convert(adc, buf),
-        at: next,
+    let mut k = 0;
+    while k < n {
+        convert_eight(adc, buf, k, cells);
+        k += 8;
     }
 }
 
-// The exact quotients, with their signs.
-fn convert(adc: AdcTransferFunction, buf: &[u8]) -> [i32; 15]
-    requires { ⌜ length (now buf) ≤ 30 ⌝ }
-    ensures { λ r. ⌜ r ≡ converted adc (now (buf .entry)) over replicate 15 (pos 0) ⌝ }
+// After the first k inputs the next eight.
+fn convert_eight(adc: AdcTransferFunction, buf: &[u8; 32], k: usize, cells: &mut [u32; 16])
+    requires { ⌜ (k ≤ 8) × (adc .gain ≤ 396) ⌝ }
+    requires { ⌜ Held adc (now buf) k (now cells) ⌝ }
+    ensures { λ _. ⌜ Held adc (now (buf .entry)) (k + 8) (now (cells .exit)) ⌝ }
 {
-    let n = buf.len() / 2;
-    let mut inputs = [0i32; 15];
     let mut i = 0;
-    while i < n {
-        let adc_reading = numbers::be_u16(buf[i * 2], buf[i * 2 + 1]);
-        inputs[i] = adc.millivolts(adc_reading);
+    while i < 8 {
+        cells[k + i] = numbers::as_u32(millivolts(adc, buf[2 * (k + i)], buf[2 * (k + i) + 1]));
         i += 1;
     }
-    inputs
+}
+
+// As `AdcTransferFunction::millivolts`, of a gain that registers give or none: an i32 holds it.
+fn millivolts(adc: AdcTransferFunction, high: u8, low: u8) -> i32
+    requires { ⌜ adc .gain ≤ 396 ⌝ }
+    ensures { λ r. ⌜ r ≡ millivolts (adc .gain) (adc .offset) (word high low) ⌝ }
+{
+    let reading = numbers::be_u16(high, low) as i32;
+    (reading * adc.gain as i32 + adc.offset as i32 * 1000) / 1000
 }

@@ -1,9 +1,10 @@
 // The cells: all inputs read at once, listed as the crate does and by the datasheet's wiring, and stored in the record.
 ghost use mathlib.Core.Path.{_≡_};
+ghost use mathlib.Core.List.{map};
 ghost use Prim.Native.Nat.{_≤_};
-ghost use lib.ListN.{take};
+ghost use lib.ListN.{length, take};
 ghost use Rattle.laws.specs.Over.{_over_};
-ghost use Rattle.procedure.specs.Inputs.{asCells};
+ghost use Rattle.moves.specs.Moves.{named};
 use bq769x0::BQ769x0;
 use bus::Cursor;
 use bus::link::RawAnswer;
@@ -31,15 +32,14 @@ fn refuse(e: Error, device: BQ769x0, at: Cursor) -> Cells
 }
 
 // The first n inputs, over the cells held.
-fn stored(n: usize, inputs: [i32; 15], cells: [MilliVolts; 15]) -> [MilliVolts; 15]
-    requires { ⌜ n ≤ 15 ⌝ }
-    ensures { λ r. ⌜ r ≡ asCells (take n inputs) over cells ⌝ }
+fn stored(n: usize, inputs: &[u32; 16], cells: [MilliVolts; 15]) -> [MilliVolts; 15]
+    requires { ⌜ (n ≤ 15) × (n ≤ length (now inputs)) ⌝ }
+    ensures { λ r. ⌜ r ≡ map named (take n (now (inputs .entry))) over cells ⌝ }
 {
     let mut out = cells;
     let mut i = 0;
     while i < n {
-        let input = inputs[i];
-        out[i] = MilliVolts(numbers::as_u32(input));
+        out[i] = MilliVolts(inputs[i]);
         i += 1;
     }
     out

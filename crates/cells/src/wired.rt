@@ -1,6 +1,6 @@
 // The cells by the datasheet's wiring: each fitted input once, bottom of the pack first, with its number beside it.
 ghost use mathlib.Core.Path.{_≡_};
-ghost use Prim.Native.Nat.{ℕ, _≤_, _<_};
+ghost use Prim.Native.Nat.{ℕ, _-_, _≤_, _<_};
 ghost use mathlib.Core.Bool.{true};
 ghost use mathlib.Core.List.{map};
 ghost use lib.ListN.{length, getD, take};
@@ -8,7 +8,7 @@ ghost use Rattle.bus.specs.Lent.{does};
 ghost use Rattle.bus.specs.Raw.{asRaw};
 ghost use Rattle.bq769x0.specs.Record.{isSound};
 ghost use Rattle.laws.specs.Over.{_over_};
-ghost use Rattle.procedure.specs.Wired.{shown, ofInput, readWired, wired};
+ghost use Rattle.procedure.specs.Wired.{shown, readWired, wired};
 use crate::Cells;
 use crate::inputs;
 use bq769x0::BQ769x0;
@@ -61,10 +61,9 @@ fn read_wired(
     let link = device.link;
     let x = link.x;
     let cell_count = device.cell_count;
-    let held = device.readings.cells;
-    let read = inputs::read_inputs(link, device.adc, tape, log, at);
+    let mut readings = [0u32; 16];
+    let read = inputs::read_inputs(link, device.adc, &mut readings, tape, log, at);
     let answer = read.answer;
-    let millivolts = read.millivolts;
     let next = read.at;
     let RawAnswer::Done = answer else {
         return Cells {
@@ -74,9 +73,10 @@ fn read_wired(
         };
     };
     let fitted = tables::fitted(x, cell_count);
-    show(cell_count as usize, fitted, millivolts, inputs, list);
-    let stored = crate::stored(x as usize, millivolts, held);
-    let cells = moves::in_turn(x, cell_count, stored);
+    show(cell_count as usize, fitted, &readings, inputs, list);
+    moves::in_turn(x, cell_count, &mut readings);
+    let held = device.readings.cells;
+    let cells = crate::stored(x as usize, &readings, held);
     let readings = Readings { cells };
     Cells {
         answer,
@@ -86,18 +86,17 @@ fn read_wired(
 }
 
 // Each cell's input and its millivolts, over the first of either list.
-fn show(n: usize, fitted: [u8; 15], millivolts: [i32; 15], inputs: &mut [u8], list: &mut [u32])
+fn show(n: usize, fitted: [u8; 15], readings: &[u32; 16], inputs: &mut [u8], list: &mut [u32])
     requires { ⌜ (n ≤ 15) × (n ≤ length (now inputs)) × (n ≤ length (now list)) ⌝ }
     requires { ⌜ ((k : ℕ) → k < n → (1 ≤ getD fitted k 0) × (getD fitted k 0 ≤ 15)) ⌝ }
     ensures { λ _. ⌜ (now (inputs .exit) ≡ take n fitted over now (inputs .entry))
-        × (now (list .exit) ≡ map (ofInput millivolts) (take n fitted) over now (list .entry)) ⌝ }
+        × (now (list .exit) ≡ map (λ input. getD (now (readings .entry)) (input - 1) 0) (take n fitted) over now (list .entry)) ⌝ }
 {
     let mut i = 0;
     while i < n {
         let input = fitted[i];
-        let reading = millivolts[input as usize - 1];
         inputs[i] = input;
-        list[i] = numbers::as_u32(reading);
+        list[i] = readings[input as usize - 1];
         i += 1;
     }
 }

@@ -8,13 +8,14 @@ use mathlib.Core.Logic.{_≢_}
 use Prim.Native.Nat.{ℕ, _-_, _<_}
 use native.Mathlib.Omega.{arith}
 use lib.Dec.{eqb, eqb→eq, lit<}
-use lib.ListN.{length, take, getD, set, length-map, length-set, List·getD-map}
+use lib.ListN.{length, take, getD, set, length-map, List·getD-map}
 use lib.Seq.{set-comm, getD-set-other, ext-getD}
 use Rattle.laws.proofs.Tests.{below}
 use Rattle.units.specs.declared.MilliVolts.{MilliVolts}
 use Rattle.moves.specs.Moves.{Move, moves, movedIf, inTurn}
 use Rattle.moves.specs.Moves.{volts, firstCells, named, names, inputsOf}
 use Rattle.laws.proofs.Lists.{getD-any, map-set, map-take}
+use Rattle.moves.proofs.Front.{length-moved}
 
 -- inputs, cells, and which inputs the answer lists, for every device and count
 abbrev Pack : Type 0
@@ -46,10 +47,6 @@ shown-inputs = refl
 abbrev Within : List Move → Type 0
 Within [] = Unit {0}
 Within (m ∷ ms) = (m .from < 15) × Within ms
-
-length-moved : (t : Bool) (to from : ℕ) (l : List MilliVolts) → length (movedIf t to from l) ≡ length l
-length-moved true to from l = length-set l to (getD l from (named 0))
-length-moved false to from l = refl
 
 module _ (f : MilliVolts → MilliVolts) where
   moved-map : (m : Move) (l : List MilliVolts) → m .from < length l

@@ -1,1 +1,2 @@
 pub mod CrateList
+pub mod Front

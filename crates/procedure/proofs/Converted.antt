@@ -1,13 +1,12 @@
 -- The readings that bytes hold, and their conversion, one by one.
 -- Assumes nothing.
-use mathlib.Core.Path.{_≡_, refl, ap, _∙_}
-use mathlib.Core.List.{List, [], _∷_}
+use mathlib.Core.Path.{_≡_, refl, sym, ap, _∙_}
+use mathlib.Core.List.{List, [], _∷_, map}
 use Prim.Native.Nat.{ℕ, zero, suc, _+_, _*_, _/_, _<_}
 use native.Mathlib.Omega.{arith}
-use lib.IntN.{ℤ}
-use lib.ListN.{length, take, drop, getD, length-map, List·getD-map}
-use lib.Seq.{take-all, take-at}
-use Rattle.laws.specs.Over.{_over_}
+use lib.ListN.{length, take, getD, length-map, List·getD-map}
+use lib.Seq.{take-nil}
+use Rattle.laws.proofs.Lists.{map-take}
 use Rattle.numbers.specs.Numbers.{word}
 use Rattle.adc.specs.Conversion.{millivolts}
 use Rattle.adc.specs.declared.transfer.AdcTransferFunction.{AdcTransferFunction}
@@ -28,6 +27,16 @@ reading-at (high ∷ low ∷ bytes) (suc i) h =
     let odd : suc i * 2 + 1 ≡ suc (suc (i * 2 + 1)) = omega arith in
     rw (odd, even) (reading-at bytes i (omega arith))
 
+first-readings : (n : ℕ) (bytes : List ℕ) → readings (take (2 * n) bytes) ≡ take n (readings bytes)
+first-readings zero bytes = refl
+first-readings (suc n) [] = rw (take-nil (2 * suc n))
+first-readings (suc n) (high ∷ []) =
+    let two : 2 * suc n ≡ suc (suc (2 * n)) = omega arith in
+    rw two
+first-readings (suc n) (high ∷ low ∷ bytes) =
+    let two : 2 * suc n ≡ suc (suc (2 * n)) = omega arith in
+    rw two (ap (λ (r : List ℕ). word high low ∷ r) (first-readings n bytes))
+
 module _ (adc : AdcTransferFunction) (bytes : List ℕ) where
   pub length-converted : length (converted adc bytes) ≡ length bytes / 2
   length-converted = length-map (readings bytes) (millivolts (adc .gain) (adc .offset)) ∙ length-readings bytes
@@ -39,10 +48,8 @@ module _ (adc : AdcTransferFunction) (bytes : List ℕ) where
       List·getD-map (millivolts (adc .gain) (adc .offset)) (readings bytes) i 0
       ∙ ap (millivolts (adc .gain) (adc .offset)) (reading-at bytes i h)
 
-  pub all-converted : take (length bytes / 2) (converted adc bytes) ≡ converted adc bytes
-  all-converted = take-all (length bytes / 2) (converted adc bytes) (omega (arith, length-converted))
-
-  pub back-converted : (n : ℕ) (l : List ℤ) → length bytes ≡ 2 * n
-      → take n (converted adc bytes over l) ≡ converted adc bytes
-  back-converted n l e =
-      take-at (converted adc bytes) (drop (length (converted adc bytes)) l) n (omega (arith, length-converted, e))
+  -- the first n inputs are those of the first bytes, two each
+  pub first-converted : (n : ℕ) → take n (converted adc bytes) ≡ converted adc (take (2 * n) bytes)
+  first-converted n =
+      sym (map-take (millivolts (adc .gain) (adc .offset)) n (readings bytes))
+      ∙ ap (map (millivolts (adc .gain) (adc .offset))) (sym (first-readings n bytes))

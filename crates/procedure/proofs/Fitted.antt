@@ -6,7 +6,7 @@ use mathlib.Core.List.{List, map}
 use Prim.Native.Nat.{ℕ, _-_, _≤_, _<_}
 use native.Mathlib.Omega.{arith}
 use lib.IntN.{ℤ, pos}
-use lib.ListN.{take, getD}
+use lib.ListN.{take, getD, List·getD-map}
 use lib.Seq.{getD-take}
 use Rattle.numbers.specs.Numbers.{asU32}
 use Rattle.wiring.specs.Tables.{fitted}
@@ -43,9 +43,13 @@ module _ (d : BQ769x0) (sound : isSound d ≡ true) where
   pub listed-inputs : {row : List ℕ} → row ≡ fifteen (fitted x n) → take n row ≡ fitted x n
   listed-inputs e = rw (e, row-first x n (sound-pack d sound))
 
-  pub listed-volts : {row : List ℕ} (readings : List ℤ) → row ≡ fifteen (fitted x n)
-      → map (ofInput readings) (take n row) ≡ voltages x n (take x readings)
-  listed-volts readings e =
-      ap (map (ofInput readings)) (listed-inputs e)
-      ∙ of-fitted (ofInput readings) (ofInput (take x readings)) λ input low high.
-      ap asU32 (sym (getD-take x readings (input - 1) (pos 0) (omega arith)))
+  -- each by its number, from 1, where the first X numbers are a reading's
+  pub listed-volts : {row : List ℕ} (readings : List ℤ) (inputs : List ℕ) → row ≡ fifteen (fitted x n)
+      → take x inputs ≡ map asU32 readings
+      → map (λ (input : ℕ). getD inputs (input - 1) 0) (take n row) ≡ voltages x n readings
+  listed-volts readings inputs e read =
+      ap (map (λ (input : ℕ). getD inputs (input - 1) 0)) (listed-inputs e)
+      ∙ of-fitted (λ (input : ℕ). getD inputs (input - 1) 0) (ofInput readings) λ input low high.
+      sym (getD-take x inputs (input - 1) 0 (omega arith))
+      ∙ ap (λ (l : List ℕ). getD l (input - 1) 0) read
+      ∙ List·getD-map asU32 readings (input - 1) (pos 0)

@@ -8,20 +8,17 @@ use Prim.Native.Nat.{ℕ, _*_, _≤_, _<_}
 use native.Mathlib.Omega.{arith}
 use lib.IntN.{ℤ}
 use borrow.Author.Tests.{lt-ltb, le-ltb}
-use Rattle.units.specs.declared.MilliVolts.{MilliVolts}
 use Rattle.refusals.specs.Refusal.{Refusal, no, Answer, value, refused, answering, nine}
 use Rattle.bus.specs.Transfers.{Bus}
 use Rattle.bus.specs.Programs.{Prog, ret, Ran, onTape, _orLeave_, _>>=_}
 use Rattle.bus.specs.Raw.{Done, readBytes}
 use Rattle.bus.proofs.Programs.{went-on, went-off, pure-on, pure-off}
-use Rattle.bq769x0.specs.Record.{isSound, withReadings}
+use Rattle.bq769x0.specs.Record.{isSound}
 use Rattle.bq769x0.specs.Registers.{soundly}
 use Rattle.bq769x0.specs.declared.BQ769x0.{BQ769x0}
 use Rattle.bq769x0.proofs.Soundly.{sound-on, sound-off}
-use Rattle.laws.specs.Over.{_over_}
-use Rattle.procedure.specs.Inputs.{converted, asCells, readInputs}
-use Rattle.moves.specs.Moves.{moves, inTurn}
-use Rattle.procedure.specs.Cells.{taking, ready}
+use Rattle.procedure.specs.Inputs.{converted, readInputs}
+use Rattle.procedure.specs.Cells.{ready}
 
 -- what holds of a call's outcome whether it refuses or goes on, holds of what comes of it
 by-answer : {A B : Type 0} (P : Ran B → Type 0)
@@ -116,13 +113,3 @@ module _ {A : Type 0} (d : BQ769x0) (room : ℕ) (leave : Refusal → A) (give :
             subst⁻¹ P (sound-on d (leave nine) _ b e)
             (by-answer P (ret (ready d room)) leave _ b off λ done q. by-bytes e)
         by-sound false e = subst⁻¹ P (sound-off d (leave nine) _ b e) (off nine b)
-
--- the record as either call leaves it, from the code's three steps
-module _ (d : BQ769x0) (inputs : List ℤ) {stored cells : List MilliVolts}
-    (at-first : stored ≡ asCells inputs over d .readings .cells)
-    (moved : cells ≡ inTurn (moves (d .link .x) (d .«cell_count»)) stored) where
-  pub cells-taken : cells ≡ taking d inputs .readings .cells
-  cells-taken = moved ∙ ap (inTurn (moves (d .link .x) (d .«cell_count»))) at-first
-
-  pub taken : {left : BQ769x0} → left ≡ withReadings d (record { cells = cells }) → left ≡ taking d inputs
-  taken e = e ∙ ap (λ (l : List MilliVolts). withReadings d (record { cells = l })) cells-taken

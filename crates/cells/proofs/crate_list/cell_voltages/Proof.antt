@@ -14,7 +14,6 @@ use Rattle.bq769x0.specs.Record.{isSound}
 use Rattle.bq769x0.specs.declared.BQ769x0.{BQ769x0}
 use Rattle.procedure.specs.Cells.{Filled, taking, untouched, listed, readCells, cellVoltages}
 use Rattle.procedure.proofs.Reading.{Tested, tested}
-use Rattle.bq769x0.proofs.Sizes.{sound-sizes}
 use Rattle.cells.proofs.crate_list.cell_voltages.Statement.{statement}
 use Rattle.cells.proofs.crate_list.cell_voltages.Tie as tie
 
@@ -104,7 +103,7 @@ returns-3 c =
 
 read-cells-requires : tie.Need-read-cells-requires
 read-cells-requires c κs =
-    (sound-sizes _ (sound (at-sound (at-marked (c .before .before)))), c .before .before .if3 .left)
+    (sound (at-sound (at-marked (c .before .before))), c .before .before .if3 .left)
 
 same-length : tie.Need-same-length
 same-length c = search needs

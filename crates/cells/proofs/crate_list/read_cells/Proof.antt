@@ -1,24 +1,28 @@
 -- `cells::crate_list::read_cells` meets its contract. Assumes nothing.
-use mathlib.Core.Path.{_≡_, sym, ap}
-use mathlib.Core.List.{List}
-use Prim.Native.Nat.{ℕ}
+use mathlib.Core.Path.{_≡_, refl, sym, ap, _∙_}
+use mathlib.Core.List.{List, map}
+use Prim.Native.Nat.{ℕ, _≤_}
+use native.Mathlib.Omega.{arith}
 use lib.IntN.{ℤ}
-use lib.ListN.{take}
+use lib.ListN.{length, take}
 use denote.Ref.{now}
 use borrow.Author.Needs.{needs}
 use Rattle.units.specs.declared.MilliVolts.{MilliVolts}
-use Rattle.refusals.specs.Refusal.{Refusal, Answer, value, refused, answering}
+use Rattle.refusals.specs.Refusal.{Refusal, value, refused}
 use Rattle.bus.specs.Transfers.{Bus, busOf}
 use Rattle.bus.specs.Programs.{Ran, onTape}
-use Rattle.bus.specs.Raw.{Done, asRaw}
+use Rattle.bus.specs.Raw.{asRaw}
+use Rattle.bus.specs.declared.link.Raw.{Raw}
 use Rattle.bq769x0.specs.Record.{withReadings}
 use Rattle.bq769x0.specs.declared.BQ769x0.{BQ769x0}
+use Rattle.bq769x0.proofs.Sizes.{sound-sizes}
 use Rattle.laws.specs.Over.{_over_}
-use Rattle.procedure.specs.Inputs.{asCells, readInputs}
-use Rattle.moves.specs.Moves.{moves, inTurn}
-use Rattle.moves.specs.Moves.{firstCells}
+use Rattle.moves.specs.Moves.{Move, moves, inTurn, named}
+use Rattle.moves.proofs.Front.{as-many}
 use Rattle.procedure.specs.Cells.{Filled, filled, taking, untouched, listed, readCells}
-use Rattle.procedure.proofs.Reading.{unread, given, cells-taken, taken}
+use Rattle.procedure.proofs.Moved.{sound-gain, taken, listed-first}
+use Rattle.procedure.proofs.Reading.{unread, given}
+use Rattle.cells.specs.Taken.{Taken}
 use Rattle.cells.proofs.crate_list.read_cells.Statement.{statement}
 use Rattle.cells.proofs.crate_list.read_cells.Tie as tie
 
@@ -26,70 +30,92 @@ module _ (s : tie.Start) where
   abbrev device : BQ769x0
   device = s .args .device
 
+  abbrev x : ℕ
+  x = device .link .x
+
+  abbrev n : ℕ
+  n = device .«cell_count»
+
+  abbrev all : List Move
+  all = moves x n
+
   abbrev list : List ℕ
   list = now (s .args .list)
 
+  abbrev tape : List ℕ
+  tape = now (s .args .tape)
+
   abbrev bus : Bus
-  bus = busOf (now (s .args .tape)) (now (s .args .log)) (s .args .at)
+  bus = busOf tape (now (s .args .log)) (s .args .at)
 
   abbrev whole : Ran Filled
   whole = onTape (readCells device list) bus
 
   abbrev give : List ℤ → Filled
-  give inputs = listed (taking device inputs) list
+  give readings = listed (taking device readings) list
 
-  -- what comes of it, by the answer `a` of the read and the inputs that it gives
-  record Read (a : Answer Done) (inputs : List ℤ) (b : Bus) : Type 0 where
-    off : {r : Refusal} → a ≡ refused r → whole ≡ record { answer = untouched device list r; bus = b }
-    on : {stored cells : List MilliVolts} {left : BQ769x0} {list′ : List ℕ} → a ≡ value tt
-        → stored ≡ asCells inputs over device .readings .cells
-        → cells ≡ inTurn (moves (device .link .x) (device .«cell_count»)) stored
-        → left ≡ withReadings device (record { cells = cells })
-        → list′ ≡ firstCells (device .«cell_count») cells over list
-        → whole ≡ record { answer = filled (value tt) left list′; bus = b }
+  few : (x ≤ 15) × (n ≤ 15)
+  few = sound-sizes device (s .pre .0)
 
-  read : (a : Answer Done) (inputs : List ℤ) (b : Bus)
-      → record { answer = answering a inputs; bus = b } ≡ onTape (readInputs (device .link) (device .adc)) bus
-      → Read a inputs b
-  unfolding readCells
-  read a inputs b e = record {
-    off = λ t. unread device 0 (untouched device list) give bus a inputs b e _ t;
-    on = λ t first moved kept lists.
-        rw (lists, taken device inputs first moved kept, cells-taken device inputs first moved)
-        (given device 0 (untouched device list) give bus a inputs b e t);
-  }
+  -- ---- by what was taken of the chip
+  module _ {r : Raw} {inputs log : List ℕ} (read : Taken (device .link) (device .adc) bus r inputs log) where
+    off : {e : Refusal} → asRaw (r .answer) ≡ refused e
+        → whole ≡ record { answer = untouched device list e; bus = busOf tape log (r .at) }
+    unfolding readCells
+    off t = unread device 0 (untouched device list) give bus (asRaw (r .answer)) (read .readings) _ (read .read) _ t
+
+    module _ (moved : List ℕ) (turned : map named moved ≡ inTurn all (map named inputs)) where
+      long : length moved ≡ 16
+      long = as-many all inputs moved turned ∙ read .room
+
+      on : {cells : List MilliVolts} {left : BQ769x0} {list′ : List ℕ} → asRaw (r .answer) ≡ value tt
+          → list′ ≡ take n moved over list
+          → cells ≡ map named (take x moved) over device .readings .cells
+          → left ≡ withReadings device (record { cells = cells })
+          → whole ≡ record { answer = filled (value tt) left list′; bus = busOf tape log (r .at) }
+      unfolding readCells
+      on t lists stored kept =
+          let room : x ≤ length inputs = omega (arith, few, read .room) in
+          let first = listed-first device (s .pre .0) (read .readings) inputs moved room (read .first t) turned in
+          rw (lists, first, taken device (s .pre .0) (read .readings) inputs moved room (read .first t) turned stored kept)
+          (given device 0 (untouched device list) give bus (asRaw (r .answer)) (read .readings) _ (read .read) t)
 
 -- ---- the places, each from the next
 abbrev at-start : tie.After-link → tie.Start
 at-start c = c .before .before .before .before
 
 abbrev at-read : tie.After-next → tie.After-read-inputs
-at-read c = c .before .before .before .before
+at-read c = c .before .before .before
 
 abbrev at-told : tie.After-in-turn → tie.After-enum-told
 at-told c = c .before .before
 
-abbrev at-cells : tie.After-fill → tie.After-in-turn
-at-cells c = c .before .before
+abbrev at-turned : tie.After-list-first → tie.After-in-turn
+at-turned c = c .before .before .before
 
-abbrev at-fill : tie.After-store-readings → tie.After-fill
-at-fill c = c .before .before .before
+abbrev at-listed : tie.After-held → tie.After-list-first
+at-listed c = c .before .before .before
 
--- ---- after the read
+-- ---- after the read, and after the moves
 module _ (c : tie.After-read-inputs) where
   abbrev start : tie.Start
   start = at-start (c .before .before .before)
 
-  after-read : Read
-      start
-      (asRaw (c .read-inputs .result .answer))
-      (take (device start .link .x) (c .read-inputs .result .millivolts))
-      (busOf (now (start .args .tape)) (c .read-inputs .last .1 .1 .1 .0) (c .read-inputs .result .at))
-  after-read = read start (asRaw (c .read-inputs .result .answer)) _ _ (c .read-inputs .ensures)
+module _ (c : tie.After-in-turn) where
+  abbrev reading : tie.After-read-inputs
+  reading = at-read (at-told c .before .before)
+
+  abbrev moved : List ℕ
+  moved = c .in-turn .last .1 .1 .0
+
+  wide : length moved ≡ 16
+  wide = long (start reading) (reading .read-inputs .ensures) moved (c .in-turn .ensures)
 
 -- ---- the needs
 read-inputs-requires : tie.Need-read-inputs-requires
-read-inputs-requires c κs = at-start (c .before .before) .pre .0 .0
+read-inputs-requires c κs =
+    let s = at-start (c .before .before) in
+    (few s .0, sound-gain (device s) (s .pre .0), refl)
 
 enum-told : tie.Need-enum-told
 enum-told c = search needs
@@ -103,24 +129,29 @@ same-length c = search needs
 returns : tie.Need-returns
 returns c =
     let t = ap asRaw (c .enum-told2 .given .1) in
-    rw t (sym (after-read (at-read (c .before .before)) .off t))
-
-cast-stored : tie.Need-cast-stored
-cast-stored c = search needs
-
-stored-requires : tie.Need-stored-requires
-stored-requires c κs = start (at-read (c .before .before)) .pre .0 .0
+    let read = at-read (c .before .before) in
+    rw t (sym (off (start read) (read .read-inputs .ensures) t))
 
 in-turn-requires : tie.Need-in-turn-requires
 in-turn-requires c κs = search needs
 
-cast-fill : tie.Need-cast-fill
-cast-fill c = search needs
+cast-list-first : tie.Need-cast-list-first
+cast-list-first c = search needs
 
-fill-requires : tie.Need-fill-requires
-fill-requires c κs =
-    let s = start (at-read (at-told (c .before) .before .before)) in
-    (s .pre .0 .1, s .pre .1)
+list-first-requires : tie.Need-list-first-requires
+list-first-requires c κs =
+    let turn = c .before .before in
+    let s = start (reading turn) in
+    (few s .1, omega (arith, few s, wide turn), s .pre .1)
+
+cast-stored : tie.Need-cast-stored
+cast-stored c = omega (arith, few (start (reading (at-turned (at-listed c)))))
+
+stored-requires : tie.Need-stored-requires
+stored-requires c κs =
+    let turn = at-turned (at-listed (c .before)) in
+    let s = start (reading turn) in
+    (few s .0, omega (arith, few s, wide turn))
 
 store-readings-requires : tie.Need-store-readings-requires
 store-readings-requires c κs = search needs
@@ -133,11 +164,12 @@ same-length-3 c = search needs
 
 returns-2 : tie.Need-returns-2
 returns-2 c =
-    let cells = at-cells (at-fill c) in
-    let t = ap asRaw (at-told cells .enum-told .given .1) in
+    let lists = at-listed (c .before .before .before) in
+    let turn = at-turned lists in
+    let t = ap asRaw (at-told turn .enum-told .given .1) in
     rw t
-    (sym (after-read (at-read (at-told cells .before .before)) .on t
-    (cells .before .stored .ensures) (cells .in-turn .ensures) (c .store-readings .ensures) (at-fill c .fill .ensures)))
+    (sym (on (start (reading turn)) (reading turn .read-inputs .ensures) (moved turn) (turn .in-turn .ensures) t
+    (lists .list-first .ensures) (c .before .stored .ensures) (c .store-readings .ensures)))
 
 pub read-cells-spec : {M : Type 1} → statement M
 read-cells-spec =
@@ -148,11 +180,11 @@ read-cells-spec =
     enum-told-2
     same-length
     returns
+    in-turn-requires
+    cast-list-first
+    list-first-requires
     cast-stored
     stored-requires
-    in-turn-requires
-    cast-fill
-    fill-requires
     store-readings-requires
     same-length-2
     same-length-3

@@ -1,125 +1,53 @@
--- `cells::inputs::convert` meets its contract: a turn goes on from i inputs to i + 1. Assumes nothing.
-use mathlib.Core.Path.{_≡_, refl, sym, ap, _∙_}
-use mathlib.Core.List.{List}
-use Prim.Native.Nat.{ℕ, _-_, _/_, _≤_, _<_, zero-le}
+-- `cells::inputs::convert` meets its contract: k is 0 or 8 where a turn begins, and the turns end at 8 or 16. Assumes nothing.
+use mathlib.Core.Path.{_≡_, sym, ap, _∙_}
+use mathlib.Core.List.{List, map}
+use Prim.Native.Nat.{ℕ, _-_, _%_, _≤_, zero-le}
 use native.Mathlib.Omega.{arith}
-use lib.IntN.{pos}
-use lib.ListN.{length, replicate, take, getD}
-use mir.Syntax.{w32}
-use mir.Val.{toZ, ofZ}
-use denote.Ref.{now}
-use Rattle.numbers.proofs.Signed.{read-back}
-use Rattle.adc.specs.Conversion.{millivolts}
+use lib.ListN.{take}
+use lib.Seq.{take-take}
+use Rattle.numbers.specs.Numbers.{asU32}
 use Rattle.adc.specs.declared.transfer.AdcTransferFunction.{AdcTransferFunction}
-use Rattle.laws.specs.Over.{_over_}
 use Rattle.procedure.specs.Inputs.{converted}
-use Rattle.laws.proofs.Over.{over-next}
-use Rattle.procedure.proofs.Converted.{length-converted, converted-at, all-converted}
+use Rattle.cells.specs.Taken.{Held}
 use Rattle.cells.proofs.inputs.convert.Statement.{statement}
 use Rattle.cells.proofs.inputs.convert.Tie as tie
 
 abbrev Inv-loop : tie.InvT-loop
-Inv-loop adc buf n inputs₀ i₀ inputs i = (i ≤ n) × (inputs ≡ take i (converted adc buf) over replicate 15 (pos 0))
+Inv-loop adc n buf cells₀ k₀ cells k = (k ≤ 16) × (k % 8 ≡ 0) × Held adc buf k cells
 
 abbrev μ-loop : tie.MeasureT-loop
-μ-loop adc buf n inputs₀ i₀ inputs i = n - i
+μ-loop adc n buf cells₀ k₀ cells k = 16 - k
 
--- ---- at the loop: what is given
-module _ (l : tie.At-loop Inv-loop μ-loop) where
-  abbrev adc : AdcTransferFunction
-  adc = l .before .before .args .adc
+fewer : {adc : AdcTransferFunction} {bytes : List ℕ} {k : ℕ} {cells : List ℕ} (n : ℕ) → n ≤ k
+    → Held adc bytes k cells → Held adc bytes n cells
+fewer {adc} {bytes} {k} {cells} n few held = record {
+  from = held .from;
+  room = held .room;
+  first =
+      sym (take-take n k cells few)
+      ∙ ap (take n) (held .first)
+      ∙ take-take n k (map asU32 (converted adc bytes)) few;
+}
 
-  abbrev bytes : List ℕ
-  bytes = now (l .before .before .args .buf)
-
--- ---- in a turn: the number made of the next two bytes
-abbrev at-loop : tie.After-be-u16 Inv-loop μ-loop → tie.At-loop Inv-loop μ-loop
-at-loop c = c .before .before .before .before
-
-module _ (c : tie.After-millivolts Inv-loop μ-loop) where
-  abbrev turn : tie.At-loop Inv-loop μ-loop
-  turn = at-loop (c .before)
-
-  abbrev i : ℕ
-  i = turn .loop .i
-
-  made : toZ w32 (ofZ w32 (c .millivolts .result))
-      ≡ getD (converted (adc turn) (bytes turn)) i (millivolts (adc turn .gain) (adc turn .offset) 0)
-  made =
-      read-back w32 (c .millivolts .result) (c .millivolts .ok)
-      ∙ c .millivolts .ensures
-      ∙ ap (millivolts (adc turn .gain) (adc turn .offset)) (c .before .be-u16 .ensures)
-      ∙ sym (converted-at (adc turn) (bytes turn) i (omega arith))
-
-  one-more : i < length (converted (adc turn) (bytes turn))
-  one-more = omega (arith, length-converted (adc turn) (bytes turn))
-
--- ---- the needs
 loop-holds : tie.Need-loop-holds Inv-loop μ-loop
-loop-holds c = (zero-le, refl)
+loop-holds c = (zero-le, omega arith, c .pre .1)
 
-mul-be-u16 : tie.Need-mul-be-u16 Inv-loop μ-loop
-mul-be-u16 c = omega arith
+convert-eight-requires : tie.Need-convert-eight-requires Inv-loop μ-loop
+convert-eight-requires c κs = ((omega arith, c .before .before .before .pre .0 .1), c .before .before .loop .inv .2)
 
-shared-slice-read-be-u16 : tie.Need-shared-slice-read-be-u16 Inv-loop μ-loop
-shared-slice-read-be-u16 c = omega arith
-
-mul-be-u16-2 : tie.Need-mul-be-u16-2 Inv-loop μ-loop
-mul-be-u16-2 c = omega arith
-
-add-be-u16 : tie.Need-add-be-u16 Inv-loop μ-loop
-add-be-u16 c = omega arith
-
-shared-slice-read-be-u16-2 : tie.Need-shared-slice-read-be-u16-2 Inv-loop μ-loop
-shared-slice-read-be-u16-2 c = omega arith
-
-be-u16-requires : tie.Need-be-u16-requires Inv-loop μ-loop
-be-u16-requires c κs = tt
-
-millivolts-requires : tie.Need-millivolts-requires Inv-loop μ-loop
-millivolts-requires c κs = tt
-
-mul-inputs : tie.Need-mul-inputs Inv-loop μ-loop
-mul-inputs c = omega arith
-
-array-set-from-inputs : tie.Need-array-set-from-inputs Inv-loop μ-loop
-array-set-from-inputs c = omega arith
-
-add-i : tie.Need-add-i Inv-loop μ-loop
-add-i c = omega arith
+add-k : tie.Need-add-k Inv-loop μ-loop
+add-k c = omega arith
 
 loop-less : tie.Need-loop-less Inv-loop μ-loop
 loop-less c = omega arith
 
 loop-again : tie.Need-loop-again Inv-loop μ-loop
-loop-again c = (
-  omega arith,
-  over-next (converted (adc (turn c)) (bytes (turn c))) (replicate 15 (pos 0)) (i c) _ (turn c .loop .inv .1)
-      (made c) (one-more c) (omega arith),
-)
+loop-again c = (omega arith, omega arith, c .convert-eight .ensures)
 
 returns : tie.Need-returns Inv-loop μ-loop
-returns c =
-    let e : c .before .loop .i ≡ length (bytes (c .before)) / 2 = omega arith in
-    c .before .loop .inv .1 ∙ rw (e, all-converted (adc (c .before)) (bytes (c .before)))
+returns c = fewer _ (omega arith) (c .before .loop .inv .2)
 
 pub convert-spec : {M : Type 1} → statement M
 convert-spec =
     tie.close
-    (tie.spec
-    Inv-loop
-    μ-loop
-    loop-holds
-    mul-be-u16
-    shared-slice-read-be-u16
-    mul-be-u16-2
-    add-be-u16
-    shared-slice-read-be-u16-2
-    be-u16-requires
-    millivolts-requires
-    mul-inputs
-    array-set-from-inputs
-    add-i
-    loop-less
-    loop-again
-    returns)
+    (tie.spec Inv-loop μ-loop loop-holds convert-eight-requires add-k loop-less loop-again returns)

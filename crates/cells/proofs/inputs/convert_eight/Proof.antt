@@ -1,0 +1,151 @@
+-- `cells::inputs::convert_eight` meets its contract: a turn goes on from k + i inputs to k + i + 1. Assumes nothing.
+use mathlib.Core.Path.{_≡_, sym, ap, ap₂, _∙_}
+use mathlib.Core.List.{List, [], _∷_, _++_, map}
+use Prim.Native.Nat.{ℕ, suc, _+_, _-_, _*_, _≤_, _<_, zero-le}
+use native.Mathlib.Omega.{arith}
+use native.Mathlib.Numerals.{unary-clauses}
+use lib.ListN.{length, take, getD, set, length-map, length-set, List·getD-map}
+use lib.Seq.{take-suc, take-suc-set}
+use mir.Syntax.{w32}
+use denote.Ref.{now}
+use Rattle.numbers.specs.Numbers.{word, asU32}
+use Rattle.numbers.proofs.Signed.{read-back}
+use Rattle.adc.specs.Conversion.{millivolts}
+use Rattle.adc.specs.declared.transfer.AdcTransferFunction.{AdcTransferFunction}
+use Rattle.procedure.specs.Inputs.{converted}
+use Rattle.procedure.proofs.Converted.{length-converted, converted-at}
+use Rattle.cells.specs.Taken.{Held}
+use Rattle.cells.proofs.inputs.convert_eight.Statement.{statement}
+use Rattle.cells.proofs.inputs.convert_eight.Tie as tie
+
+abbrev Inv-loop : tie.InvT-loop
+Inv-loop adc buf k cells₀ i₀ cells i = (i ≤ 8) × Held adc buf (k + i) cells
+
+abbrev μ-loop : tie.MeasureT-loop
+μ-loop adc buf k cells₀ i₀ cells i = 8 - i
+
+-- ---- one input more
+module _ {adc : AdcTransferFunction} {bytes : List ℕ} {j : ℕ} {cells : List ℕ} (held : Held adc bytes j cells) (more : j < 16) where
+  abbrev numbers : List ℕ
+  numbers = map asU32 (converted adc bytes)
+
+  abbrev none : ℕ
+  none = asU32 (millivolts (adc .gain) (adc .offset) 0)
+
+  there : j < length numbers
+  there = omega (arith, length-map (converted adc bytes) asU32, length-converted adc bytes, held .from)
+
+  next-is : asU32 (millivolts (adc .gain) (adc .offset) (word (getD bytes (2 * j) 0) (getD bytes (2 * j + 1) 0)))
+      ≡ getD numbers j none
+  next-is =
+      let high : 2 * j ≡ j * 2 = omega arith in
+      let low : 2 * j + 1 ≡ j * 2 + 1 = omega arith in
+      ap₂ (λ (h l : ℕ). asU32 (millivolts (adc .gain) (adc .offset) (word (getD bytes h 0) (getD bytes l 0)))) high low
+      ∙ ap asU32 (sym (converted-at adc bytes j (omega (arith, held .from))))
+      ∙ sym (List·getD-map asU32 (converted adc bytes) j _)
+
+  one-more : {a : ℕ} → a ≡ getD numbers j none → Held adc bytes (suc j) (set cells j a)
+  one-more {a} made = record {
+    from = held .from;
+    room = length-set cells j a ∙ held .room;
+    first =
+        take-suc-set cells j a (omega (arith, held .room))
+        ∙ ap₂ (λ (l : List ℕ) (n : ℕ). l ++ (n ∷ [])) (held .first) made
+        ∙ sym (take-suc numbers j none there);
+  }
+
+-- ---- in a turn
+module _ (c : tie.After-as-u32 Inv-loop μ-loop) where
+  abbrev turn : tie.At-loop Inv-loop μ-loop
+  turn = c .before .before .before .before .before
+
+  abbrev j : ℕ
+  j = turn .before .args .k + turn .loop .i
+
+  next : Held (turn .before .args .adc) (now (turn .before .args .buf)) (suc j) (set (turn .loop .cells) j (c .as-u32 .result))
+  next =
+      let within : j < 16 = omega arith in
+      one-more (turn .loop .inv .1) within
+      (c .as-u32 .ensures
+      ∙ ap asU32 (read-back w32 (c .before .millivolts .result) (c .before .millivolts .ok) ∙ c .before .millivolts .ensures)
+      ∙ next-is (turn .loop .inv .1) within)
+
+-- ---- the needs
+loop-holds : tie.Need-loop-holds Inv-loop μ-loop
+loop-holds c = (zero-le, simp unary-clauses (c .pre .1))
+
+add-millivolts : tie.Need-add-millivolts Inv-loop μ-loop
+add-millivolts c = omega arith
+
+mul-millivolts : tie.Need-mul-millivolts Inv-loop μ-loop
+mul-millivolts c = omega arith
+
+element-copy-out-millivolts : tie.Need-element-copy-out-millivolts Inv-loop μ-loop
+element-copy-out-millivolts c = omega arith
+
+add-millivolts-2 : tie.Need-add-millivolts-2 Inv-loop μ-loop
+add-millivolts-2 c = omega arith
+
+mul-millivolts-2 : tie.Need-mul-millivolts-2 Inv-loop μ-loop
+mul-millivolts-2 c = omega arith
+
+add-millivolts-3 : tie.Need-add-millivolts-3 Inv-loop μ-loop
+add-millivolts-3 c = omega arith
+
+element-copy-out-millivolts-2 : tie.Need-element-copy-out-millivolts-2 Inv-loop μ-loop
+element-copy-out-millivolts-2 c = omega arith
+
+millivolts-requires : tie.Need-millivolts-requires Inv-loop μ-loop
+millivolts-requires c κs = c .before .before .before .before .pre .0 .1
+
+as-u32-requires : tie.Need-as-u32-requires Inv-loop μ-loop
+as-u32-requires c κs = tt
+
+add-cells : tie.Need-add-cells Inv-loop μ-loop
+add-cells c = omega arith
+
+mul-cells : tie.Need-mul-cells Inv-loop μ-loop
+mul-cells c = omega arith
+
+element-write-cells : tie.Need-element-write-cells Inv-loop μ-loop
+element-write-cells c = omega arith
+
+add-i : tie.Need-add-i Inv-loop μ-loop
+add-i c = omega arith
+
+loop-less : tie.Need-loop-less Inv-loop μ-loop
+loop-less c = omega arith
+
+loop-again : tie.Need-loop-again Inv-loop μ-loop
+loop-again c =
+    let e : suc (j c) ≡ turn c .before .args .k + (turn c .loop .i + 1) = omega arith in
+    (omega arith, rw e at (next c))
+
+returns : tie.Need-returns Inv-loop μ-loop
+returns c =
+    let e : c .before .loop .i ≡ 8 = omega arith in
+    rw e at (c .before .loop .inv .1)
+
+pub convert-eight-spec : {M : Type 1} → statement M
+convert-eight-spec =
+    tie.close
+    (tie.spec
+    Inv-loop
+    μ-loop
+    loop-holds
+    add-millivolts
+    mul-millivolts
+    element-copy-out-millivolts
+    add-millivolts-2
+    mul-millivolts-2
+    add-millivolts-3
+    element-copy-out-millivolts-2
+    millivolts-requires
+    as-u32-requires
+    add-cells
+    mul-cells
+    element-write-cells
+    add-i
+    loop-less
+    loop-again
+    returns)
