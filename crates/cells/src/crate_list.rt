@@ -73,18 +73,6 @@ fn read_cells(device: BQ769x0, list: &mut [u32], tape: &[u8], log: &mut [u8], at
     }
 }
 
-// The first n inputs, over the list's first n.
-fn list_first(n: usize, inputs: &[u32; 16], list: &mut [u32])
-    requires { ⌜ (n ≤ 15) × (n ≤ length (now inputs)) × (n ≤ length (now list)) ⌝ }
-    ensures { λ _. ⌜ now (list .exit) ≡ take n (now (inputs .entry)) over now (list .entry) ⌝ }
-{
-    let mut i = 0;
-    while i < n {
-        list[i] = inputs[i];
-        i += 1;
-    }
-}
-
 // The leading part of the list, filled from the record; nothing where the count exceeds the list or 15.
 pub fn cells_of<'a>(device: BQ769x0, list: &'a mut [u32]) -> &'a mut [u32]
     ensures { λ r. ⌜ (now r ≡ handed (device .«cell_count») (device .readings .cells) (length (now (list .entry))))
@@ -111,6 +99,18 @@ fn fill(n: usize, cells: [MilliVolts; 15], list: &mut [u32])
     while i < n {
         let cell = cells[i];
         list[i] = cell.0;
+        i += 1;
+    }
+}
+
+// The first n inputs, over the list's first n.
+fn list_first(n: usize, inputs: &[u32; 16], list: &mut [u32])
+    requires { ⌜ (n ≤ 15) × (n ≤ length (now inputs)) × (n ≤ length (now list)) ⌝ }
+    ensures { λ _. ⌜ now (list .exit) ≡ take n (now (inputs .entry)) over now (list .entry) ⌝ }
+{
+    let mut i = 0;
+    while i < n {
+        list[i] = inputs[i];
         i += 1;
     }
 }

@@ -61,8 +61,8 @@ fn read_wired(
     let link = device.link;
     let x = link.x;
     let cell_count = device.cell_count;
-    let mut readings = [0u32; 16];
-    let read = inputs::read_inputs(link, device.adc, &mut readings, tape, log, at);
+    let mut millivolts = [0u32; 16];
+    let read = inputs::read_inputs(link, device.adc, &mut millivolts, tape, log, at);
     let answer = read.answer;
     let next = read.at;
     let RawAnswer::Done = answer else {
@@ -73,10 +73,10 @@ fn read_wired(
         };
     };
     let fitted = tables::fitted(x, cell_count);
-    show(cell_count as usize, fitted, &readings, inputs, list);
-    moves::in_turn(x, cell_count, &mut readings);
+    show(cell_count as usize, fitted, &millivolts, inputs, list);
+    moves::in_turn(x, cell_count, &mut millivolts);
     let held = device.readings.cells;
-    let cells = crate::stored(x as usize, &readings, held);
+    let cells = crate::stored(x as usize, &millivolts, held);
     let readings = Readings { cells };
     Cells {
         answer,
@@ -86,17 +86,17 @@ fn read_wired(
 }
 
 // Each cell's input and its millivolts, over the first of either list.
-fn show(n: usize, fitted: [u8; 15], readings: &[u32; 16], inputs: &mut [u8], list: &mut [u32])
+fn show(n: usize, fitted: [u8; 15], millivolts: &[u32; 16], inputs: &mut [u8], list: &mut [u32])
     requires { ⌜ (n ≤ 15) × (n ≤ length (now inputs)) × (n ≤ length (now list)) ⌝ }
     requires { ⌜ ((k : ℕ) → k < n → (1 ≤ getD fitted k 0) × (getD fitted k 0 ≤ 15)) ⌝ }
     ensures { λ _. ⌜ (now (inputs .exit) ≡ take n fitted over now (inputs .entry))
-        × (now (list .exit) ≡ map (λ input. getD (now (readings .entry)) (input - 1) 0) (take n fitted) over now (list .entry)) ⌝ }
+        × (now (list .exit) ≡ map (λ input. getD (now (millivolts .entry)) (input - 1) 0) (take n fitted) over now (list .entry)) ⌝ }
 {
     let mut i = 0;
     while i < n {
         let input = fitted[i];
         inputs[i] = input;
-        list[i] = readings[input as usize - 1];
+        list[i] = millivolts[input as usize - 1];
         i += 1;
     }
 }

@@ -4,7 +4,7 @@ use mathlib.Core.List.{List, [], _∷_, _++_, map}
 use Prim.Native.Nat.{ℕ, suc, _+_, _-_, _*_, _≤_, _<_, zero-le}
 use native.Mathlib.Omega.{arith}
 use native.Mathlib.Numerals.{unary-clauses}
-use lib.ListN.{length, take, getD, set, length-map, length-set, List·getD-map}
+use lib.ListN.{length, getD, set, length-map, length-set, List·getD-map}
 use lib.Seq.{take-suc, take-suc-set}
 use mir.Syntax.{w32}
 use denote.Ref.{now}

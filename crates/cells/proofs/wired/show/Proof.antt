@@ -11,17 +11,17 @@ use Rattle.laws.proofs.Over.{over-next, map-next}
 use Rattle.cells.proofs.wired.show.Statement.{statement}
 use Rattle.cells.proofs.wired.show.Tie as tie
 
--- the reading of an input, from 1
+-- the number of an input, from 1
 abbrev of : List ℕ → ℕ → ℕ
-of readings input = getD readings (input - 1) 0
+of millivolts input = getD millivolts (input - 1) 0
 
 abbrev Inv-loop : tie.InvT-loop
-Inv-loop n readings inputs₀ list₀ fitted i₀ inputs list i =
-    (i ≤ n) × (inputs ≡ take i fitted over inputs₀) × (list ≡ take i (map (of readings) fitted) over list₀)
+Inv-loop n millivolts inputs₀ list₀ fitted i₀ inputs list i =
+    (i ≤ n) × (inputs ≡ take i fitted over inputs₀) × (list ≡ take i (map (of millivolts) fitted) over list₀)
     × (length inputs ≡ length inputs₀) × (length list ≡ length list₀) × (length fitted ≡ 15)
 
 abbrev μ-loop : tie.MeasureT-loop
-μ-loop n readings inputs₀ list₀ fitted i₀ inputs list i = n - i
+μ-loop n millivolts inputs₀ list₀ fitted i₀ inputs list i = n - i
 
 -- the next cell's input is one of the fifteen
 module _ (c : tie.In-loop Inv-loop μ-loop) where
@@ -70,7 +70,7 @@ loop-again c =
     let a = c .before .before .before .args in (
       omega arith,
       over-next (a .t2) (now (a .inputs)) (l .i) 0 (l .inv .1) refl (omega arith) (omega arith),
-      map-next (of (now (a .readings))) (a .t2) (now (a .list)) (l .i) 0 (l .inv .2) refl (omega arith) (omega arith),
+      map-next (of (now (a .millivolts))) (a .t2) (now (a .list)) (l .i) 0 (l .inv .2) refl (omega arith) (omega arith),
       simp length-set (l .inv .3),
       simp length-set (l .inv .4),
       l .inv .5,
@@ -87,7 +87,7 @@ returns c =
     let a = c .before .before .args in
     let e : c .before .loop .i ≡ a .n = omega arith in (
       c .before .loop .inv .1 ∙ rw e,
-      c .before .loop .inv .2 ∙ rw (e, map-take (of (now (a .readings))) (a .n) (a .t2)),
+      c .before .loop .inv .2 ∙ rw (e, map-take (of (now (a .millivolts))) (a .n) (a .t2)),
     )
 
 pub show-spec : {M : Type 1} → statement M
