@@ -51,7 +51,7 @@ module _ (d : BQ769x0) (sound : isSound d ≡ true) where
       (λ (t : T (eqb gain 0 && none)). omega (arith, eqb→eq gain 0 (both-left (eqb gain 0) none t)))
       (or-yes (leb 365 gain && leb gain 396) (eqb gain 0 && none) (rw (decides d sound .calibrated) tt))
 
-  pub no-more : n ≤ x
+  no-more : n ≤ x
   no-more = leb→le n x (of-pack (λ y m. leb m y) tt x n (sound-pack d sound))
 
   in-front : T (inFront x all)

@@ -98,9 +98,13 @@ module _ (c : tie.Joined4) where
   by-second-block : map named (c .if4 .cells) ≡ after (start (c .before)) 4
   by-second-block =
       ⊎-elim
-      (λ w. made 8 9 (w .1 .cells) (by-third (record { before = record { before = c .before; if4 = w .0 }; if5 = w .1 })) (both (w .0 .taken) (w .2 .taken)) (w .4))
+      (λ w.
+      made 8 9 (w .1 .cells) (by-third (record { before = record { before = c .before; if4 = w .0 }; if5 = w .1 }))
+      (both (w .0 .taken) (w .2 .taken)) (w .4))
       (⊎-elim
-      (λ w. unmade 8 9 (w .1 .cells) (by-third (record { before = record { before = c .before; if4 = w .0 }; if5 = w .1 })) (but-not (w .0 .taken) (w .2 .left)) (w .3))
+      (λ w.
+      unmade 8 9 (w .1 .cells) (by-third (record { before = record { before = c .before; if4 = w .0 }; if5 = w .1 }))
+      (but-not (w .0 .taken) (w .2 .left)) (w .3))
       (λ w. ap (map named) (w .1) ∙ one-block (record { before = c .before; if4 = w .0 })))
       (c .if4 .came)
 
