@@ -1,113 +1,245 @@
+-- `raw::read_raw` meets its contract: done by the short way, or by the long way with nothing touched before. Assumes nothing.
+use mathlib.Core.Path.{_≡_, refl, sym, ap, subst, _∙_}
+use mathlib.Core.Bool.{Bool, true, false, not, _&&_, and-eq-true-iff}
+use mathlib.Core.Logic.{_⊎_, inl, inr}
+use mathlib.Core.List.{List}
+use Prim.Native.Nat.{ℕ, _+_, _*_, _^_, _≤_, _<_}
+use native.Mathlib.Omega.{arith}
+use lib.ListN.{length, take, replicate}
+use lib.Seq.{length-take-le}
+use lib.Dec.{leb, eqb}
+use borrow.Author.Tests.{leb-true, eqb-false, not-true}
+use denote.Ref.{now}
+use Rattle.refusals.specs.Refusal.{value}
+use Rattle.bus.specs.Transfers.{Bus, busOf, read}
+use Rattle.bus.specs.Programs.{ran, onTape}
+use Rattle.bus.specs.Raw.{sound, Read, gives, readRaw}
+use Rattle.bus.proofs.Raws.{zeros, sound-x}
+use Rattle.raw.specs.Replies.{taken, onward, GotBy}
+use Rattle.raw.specs.declared.transfer.Reply.the-variants.{Made}
+use Rattle.raw.proofs.Quick.{is-got, not-got, in-front, among-zeros, taken-any, read-well, frame-well}
 use borrow.Author.Needs.{needs}
 use Rattle.raw.proofs.read_raw.Statement.{statement}
 use Rattle.raw.proofs.read_raw.Tie as tie
-use Rattle.raw.proofs.read_raw.Reads as reads
-use Rattle.raw.proofs.read_raw.Lts as lts
-use Rattle.bus.proofs.link.Link.is_sound.Reads as is-sound-reads
-use Rattle.raw.proofs.further.Reads as further-reads
-use Rattle.raw.proofs.long.read_long.Reads as read-long-reads
-use Rattle.raw.proofs.take_frame.Reads as take-frame-reads
-use Rattle.raw.proofs.well.got.Reads as got-reads
 
--- src/lib.rt:87:17
+-- ---- what is given
+module _ (c : tie.After-struct-known2) where
+  abbrev asked : tie.After-is-sound
+  asked = c .before .before
+
+  abbrev start : tie.Start
+  start = asked .before .before .before .before
+
+  abbrev bytes : List ℕ
+  bytes = now (start .args .«data»)
+
+  abbrev bus : Bus
+  bus = busOf (now (start .args .tape)) (now (start .args .log)) (start .args .at)
+
+  sizes : (length (now (start .args .tape)) < 2 ^ 64) × (length (now (start .args .log)) < 2 ^ 64)
+  sizes = (omega arith, omega arith)
+
+  abbrev tested : Bool
+  tested = asked .is-sound .result && leb (start .args .reg-address + length bytes) 256
+
+  is-sound : tested ≡ true → sound (start .args .link) ≡ true
+  is-sound t = sym (asked .is-sound .ensures) ∙ and-eq-true-iff _ _ .0 t .0
+
+  within : tested ≡ true → start .args .reg-address + length bytes ≤ 256
+  within t = leb-true _ _ (and-eq-true-iff (asked .is-sound .result) _ .0 t .1)
+
+-- ---- nothing is touched where the long way begins
+untouched : (c : tie.Joined1)
+    → (c .if1 .«data» ≡ bytes (c .before)) × (c .if1 .log ≡ now (start (c .before) .args .log))
+untouched c =
+    elim (c .if1 .came) [
+      | inl (if1, frame, got-arg, got, frame2, log′, known, if2, d, l) ↦ (d, l ∙ not-got _ _ _ _ _ _ (if2 .left) (got .ensures) .1)
+      | inr (inl (if1, known, if3, got-arg2, got-arg3, got2, data2, known5, log2, known6, if4, d, l)) ↦
+          let n = not-got _ _ _ _ _ _ (if4 .left) (got2 .ensures) in (d ∙ n .0, l ∙ n .1)
+      | inr (inr (if1, known, if3, d, l)) ↦ (d, l)
+    ]
+
+-- ---- with check bytes
+module _ (c : tie.Then1) where
+  abbrev k : tie.After-struct-known2
+  k = c .before
+
+  abbrev n : ℕ
+  n = length (bytes k)
+
+  abbrev x : ℕ
+  x = start k .args .link .x
+
+  both : (tested k ≡ true) × ((start k .args .link .check && not (eqb n 0)) && leb n (2 * x) ≡ true)
+  both = and-eq-true-iff _ _ .0 (c .if1 .taken)
+
+  checks : (start k .args .link .check ≡ true) × (not (eqb n 0) ≡ true)
+  checks = and-eq-true-iff _ _ .0 (and-eq-true-iff _ _ .0 (both .1) .0)
+
+  few : n ≤ 2 * x
+  few = leb-true _ _ (and-eq-true-iff (start k .args .link .check && not (eqb n 0)) _ .0 (both .1) .1)
+
+  most : n ≤ 30
+  most = omega (arith, few, sound-x (start k .args .link) (is-sound k (both .0)))
+
+  some : n ≡ 0 → ⊥
+  some = eqb-false n 0 (not-true _ (checks .1))
+
+-- the read into zeros is done
+module _ (c : tie.Then2) where
+  abbrev framed : tie.After-got
+  framed = c .before .before .before .before
+
+  abbrev t : tie.Then1
+  t = framed .before .before .before
+
+  abbrev zero : List ℕ
+  zero = take (2 * n t) (replicate 66 0)
+
+  abbrev frame : List ℕ
+  frame = framed .got .last .1 .1 .0
+
+  abbrev log : List ℕ
+  log = framed .got .last .1 .1 .1 .1 .0
+
+  all : length zero ≡ 2 * n t
+  all = length-take-le (2 * n t) (replicate 66 0) (omega (arith, most t))
+
+  size : length frame ≡ 2 * n t
+  size = framed .got .kept .1 .1 .0 ∙ all
+
+  got : GotBy (read (start (k t) .args .link .address) (start (k t) .args .reg-address) (length zero)) (bus (k t)) zero true frame log
+  got = is-got _ _ _ _ _ _ (c .if2 .taken) (framed .got .ensures)
+
+  tape-room : start (k t) .args .at .tape + (3 + 2 * n t) ≤ length (now (start (k t) .args .tape))
+  tape-room = subst (λ (m : ℕ). start (k t) .args .at .tape + (3 + m) ≤ length (now (start (k t) .args .tape))) all (got .1 .0)
+
+  log-room : start (k t) .args .at .log + 7 ≤ length (now (start (k t) .args .log))
+  log-room = got .1 .1
+
+  checked : {r : Read} → r ≡ taken (start (k t) .args .link .address) (bytes (k t)) frame (Made false (length zero))
+      → ran r (bus (k t) .tape) log (onward (bus (k t) .at) (3 + 2 * n t) 7)
+      ≡ onTape (readRaw (start (k t) .args .link) (start (k t) .args .reg-address) (bytes (k t))) (bus (k t))
+  checked {r} e =
+      subst (λ (m : ℕ). ran r (bus (k t) .tape) log (onward (bus (k t) .at) (3 + m) 7)
+      ≡ onTape (readRaw (start (k t) .args .link) (start (k t) .args .reg-address) (bytes (k t))) (bus (k t))) all
+      (frame-well (start (k t) .args .link) (start (k t) .args .reg-address) (bytes (k t)) (bus (k t)) (is-sound (k t) (both t .0))
+      (within (k t) (both t .0)) r (checks t .0) (few t) (some t) (zeros (2 * n t) 66 (omega (arith, most t))) got e)
+
+abbrev at-test : tie.After-slice-known4 → tie.Then2
+at-test c = c .before .before .before .before .before
+
+-- ---- the needs
 is-sound-requires : tie.Need-is-sound-requires
 is-sound-requires c κs = search needs
 
--- src/lib.rt:87:36
 add-sound : tie.Need-add-sound
 add-sound c = search needs
 
--- src/lib.rt:88:53
 cast-framed : tie.Need-cast-framed
 cast-framed c = search needs
 
--- src/lib.rt:88:48
 mul-framed : tie.Need-mul-framed
 mul-framed c = search needs
 
--- src/lib.rt:91:57
 mul-frame : tie.Need-mul-frame
 mul-frame c = search needs
 
--- src/lib.rt:91:44
 array-borrow-prefix-frame : tie.Need-array-borrow-prefix-frame
-array-borrow-prefix-frame c = ?
+array-borrow-prefix-frame c = omega (arith, most c)
 
--- src/lib.rt:91:44
 slice-aggregate-got : tie.Need-slice-aggregate-got
-slice-aggregate-got c = ?
+slice-aggregate-got c = sym (length-take-le (2 * n (c .before)) (replicate 66 0) (omega (arith, most (c .before))))
 
--- src/lib.rt:91:12
 got-requires : tie.Need-got-requires
-got-requires c κs = ?
+got-requires c κs =
+    let t = c .before .before in
+    omega (arith, length-take-le {A = ℕ} (2 * n t) (replicate 66 0) (omega (arith, most t)), most t)
 
--- src/lib.rt:93:25
 take-frame-requires : tie.Need-take-frame-requires
-take-frame-requires c κs = ?
+take-frame-requires c κs =
+    let i = c .before .before in
+    ((omega (arith, some (t i)), most (t i)), among-zeros (replicate 66 0) (frame i) (2 * n (t i)) (size i))
 
--- src/lib.rt:94:37
 mul-further : tie.Need-mul-further
 mul-further c = search needs
 
--- src/lib.rt:94:33
 add-further : tie.Need-add-further
-add-further c = ?
+add-further c = omega (arith, most (t (at-test c)))
 
--- src/lib.rt:94:21
 further-requires : tie.Need-further-requires
-further-requires c κs = ?
+further-requires c κs =
+    let i = at-test c in
+    let fit = sizes (k (t i)) in
+    (omega (arith, tape-room i, fit .0), omega (arith, log-room i, fit .1))
 
--- src/lib.rt:92:13
 same-length : tie.Need-same-length
 same-length c = search needs
 
--- src/lib.rt:92:13
 same-length-2 : tie.Need-same-length-2
 same-length-2 c = search needs
 
--- src/lib.rt:92:13
 returns : tie.Need-returns
-returns c = ?
+returns c =
+    let i = at-test (c .before) in
+    let a = start (k (t i)) .args in
+    rw (c .further .ensures)
+    (checked i
+    (c .before .before .before .take-frame .ensures
+    ∙ ap (λ (l : List ℕ). taken (a .link .address) (now (a .«data»)) l (Made false (2 * n (t i))))
+    (in-front (replicate 66 0) (frame i) (2 * n (t i)) (size i))
+    ∙ taken-any (a .link .address) (now (a .«data»)) (frame i) false (2 * n (t i)) (length (zero i))))
 
--- src/lib.rt:98:12
 got-requires-2 : tie.Need-got-requires-2
-got-requires-2 c κs = ?
+got-requires-2 c κs =
+    let p = c .before .before in
+    omega (arith, within (p .before .before .before) (and-eq-true-iff _ _ .0 (p .if3 .taken) .0))
 
--- src/lib.rt:101:33
 add-further-2 : tie.Need-add-further-2
 add-further-2 c = search needs
 
--- src/lib.rt:101:21
 further-requires-2 : tie.Need-further-requires-2
-further-requires-2 c κs = ?
+further-requires-2 c κs =
+    let g = is-got _ _ _ _ _ _ (c .if4 .taken) (c .before .before .before .before .before .got2 .ensures) in
+    (omega (arith, g .1 .0), omega (arith, g .1 .1))
 
--- src/lib.rt:99:13
 same-length-3 : tie.Need-same-length-3
 same-length-3 c = search needs
 
--- src/lib.rt:99:13
 same-length-4 : tie.Need-same-length-4
 same-length-4 c = search needs
 
--- src/lib.rt:99:13
 returns-2 : tie.Need-returns-2
-returns-2 c = ?
+returns-2 c =
+    let g = c .before .before .before .before .before .before in
+    let p = g .before .before .before in
+    let q = p .before .before .before in
+    let t = and-eq-true-iff _ _ .0 (p .if3 .taken) in
+    rw (c .further2 .ensures)
+    (read-well (start q .args .link) (start q .args .reg-address) (bytes q) (bus q) (is-sound q (t .0)) (within q (t .0))
+    (not-true _ (t .1)) (is-got _ _ _ _ _ _ (c .before .if4 .taken) (g .got2 .ensures)))
 
--- src/lib.rt:105:5
 read-long-requires : tie.Need-read-long-requires
 read-long-requires c κs = search needs
 
--- src/lib.rt:74:1
 same-length-5 : tie.Need-same-length-5
-same-length-5 c = ?
+same-length-5 c =
+    let j = c .before .before .before .before .before .before .before in
+    c .before .before .before .before .read-long .kept .1 .1 .0 ∙ ap length (untouched j .0)
 
--- src/lib.rt:74:1
 same-length-6 : tie.Need-same-length-6
-same-length-6 c = ?
+same-length-6 c =
+    let j = c .before .before .before .before .before .before .before in
+    c .before .before .before .before .read-long .kept .1 .1 .1 .1 .0 ∙ ap length (untouched j .1)
 
--- src/lib.rt:74:1
 returns-3 : tie.Need-returns-3
-returns-3 c = ?
+returns-3 c =
+    let j = c .before .before .before .before .before .before .before in
+    let a = start (j .before) .args in
+    c .before .before .before .before .read-long .ensures
+    ∙ ap (λ (l : List ℕ). onTape (readRaw (a .link) (a .reg-address) l) (busOf (now (a .tape)) (j .if1 .log) (a .at))) (untouched j .0)
+    ∙ ap (λ (l : List ℕ). onTape (readRaw (a .link) (a .reg-address) (bytes (j .before))) (busOf (now (a .tape)) l (a .at)))
+    (untouched j .1)
 
 pub read-raw-spec : {M : Type 1} → statement M
 read-raw-spec =
