@@ -1,4 +1,5 @@
--- A plan whose answer is known; and, of two stages, the second after a first that gave a value, nothing after one that refused.
+-- A call by a record's link; a plan whose answer is known; and, of two stages, the second after a first that gave a value, nothing after one
+-- that refused.
 -- Assumes nothing.
 use mathlib.Core.Path.{_≡_, refl, sym, ap, _∙_}
 use Prim.Native.Nat.{ℕ}
@@ -7,11 +8,16 @@ use Rattle.refusals.specs.Refusal.{Refusal, Answer, value, refused}
 use Rattle.plan.specs.Plan.{Values, Planned, Outcome, outcome, asInit, asPlan}
 use Rattle.plan.specs.declared.Plan.{Plan}
 use Rattle.bus.specs.Transfers.{Bus}
+use Rattle.bus.specs.declared.link.Link.{Link}
 use Rattle.bus.specs.Programs.{Prog, Ran, onTape, bind}
 use Rattle.bus.proofs.Programs.{onTape-bind}
 use Rattle.bq769x0.specs.Record.{Left, leaves, leaving}
 use Rattle.procedure.specs.Init.{onward, onwardBy}
 use Rattle.bq769x0.specs.declared.BQ769x0.{BQ769x0}
+
+pub by-link : (d : BQ769x0) {link : Link} → d .link ≡ link → {A : Type 0} (call : Link → Prog A) (b : Bus)
+    → onTape (call link) b ≡ onTape (call (d .link)) b
+by-link d link-is call b = ap (λ (l : Link). onTape (call l) b) (sym link-is)
 
 -- a plan's definition, from its answer and its bytes
 planBy : Answer Values → List ℕ → Answer Planned

@@ -1,4 +1,4 @@
-// What setting up answers, the record that it leaves, and how far tape and log are used then.
+// What setting up answers, the record that it leaves, and how far tape and log are used then. A stage takes no record and leaves none.
 use bq769x0::BQ769x0;
 use bus::Cursor;
 use bus::link::RawAnswer;
@@ -13,5 +13,10 @@ pub struct Calibrated {
 pub struct Init {
     pub answer: InitAnswer,
     pub device: BQ769x0,
+    pub at: Cursor,
+}
+
+pub struct Stage {
+    pub answer: InitAnswer,
     pub at: Cursor,
 }
