@@ -49,4 +49,46 @@ impl BQ769x0 {
         let link = self.link;
         raw::write_raw(link, reg_address, data, tape, log, at)
     }
+
+    // One register by each of the two, as they do it for that count.
+    pub fn read_one(
+        self,
+        reg_address: u8,
+        data: &mut [u8; 1],
+        tape: &[u8],
+        log: &mut [u8],
+        at: Cursor,
+    ) -> Raw
+        ensures { λ r. ⌜ does (readRaw self «reg_address» (now («data» .entry))) tape log at
+            (gives (asRaw (r .answer)) (now («data» .exit))) (r .at) ⌝ }
+    {
+        if !self.is_sound() {
+            return Raw {
+                answer: RawAnswer::Refused(Error::BadDevice),
+                at,
+            };
+        }
+        let link = self.link;
+        raw::short::read_one(link, reg_address, data, tape, log, at)
+    }
+
+    pub fn write_one(
+        self,
+        reg_address: u8,
+        data: &[u8; 1],
+        tape: &[u8],
+        log: &mut [u8],
+        at: Cursor,
+    ) -> Raw
+        ensures { λ r. ⌜ does (writeRaw self «reg_address» (now («data» .entry))) tape log at (asRaw (r .answer)) (r .at) ⌝ }
+    {
+        if !self.is_sound() {
+            return Raw {
+                answer: RawAnswer::Refused(Error::BadDevice),
+                at,
+            };
+        }
+        let link = self.link;
+        raw::short::write_one(link, reg_address, data, tape, log, at)
+    }
 }

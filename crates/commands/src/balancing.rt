@@ -13,7 +13,7 @@ pub fn enable_balancing(device: BQ769x0, cells: u8, tape: &[u8], log: &mut [u8],
     ensures { λ r. ⌜ does (enableBalancing device cells) tape log at (asRaw (r .answer)) (r .at) ⌝ }
 {
     let set = [cells];
-    device.write_raw(0x01, &set, tape, log, at)
+    device.write_one(0x01, &set, tape, log, at)
 }
 
 pub fn balancing_state(device: BQ769x0, tape: &[u8], log: &mut [u8], at: Cursor) -> ByteRead

@@ -33,7 +33,7 @@ pub(crate) fn read_register(
         (asByte (r .answer)) (r .at) ⌝ }
 {
     let mut data = [0u8; 1];
-    let read = device.read_raw(reg, &mut data, tape, log, at);
+    let read = device.read_one(reg, &mut data, tape, log, at);
     let answer = read.answer;
     let next = read.at;
     let RawAnswer::Done = answer else {
@@ -62,7 +62,7 @@ pub(crate) fn change_bits(
         (asRaw (r .answer)) (r .at) ⌝ }
 {
     let mut data = [0u8; 1];
-    let read = device.read_raw(reg, &mut data, tape, log, at);
+    let read = device.read_one(reg, &mut data, tape, log, at);
     let answer = read.answer;
     let next = read.at;
     let RawAnswer::Done = answer else {
@@ -70,5 +70,5 @@ pub(crate) fn change_bits(
     };
     let changed = [data[0] & !mask | bits];
     let link = device.link;
-    raw::write_raw(link, reg, &changed, tape, log, next)
+    raw::short::write_one(link, reg, &changed, tape, log, next)
 }

@@ -11,7 +11,7 @@ pub fn ship_enter(device: BQ769x0, tape: &[u8], log: &mut [u8], at: Cursor) -> R
     ensures { λ r. ⌜ does (shipEnter device) tape log at (asRaw (r .answer)) (r .at) ⌝ }
 {
     let none = [0b0000_0000];
-    let first = device.write_raw(0x04, &none, tape, log, at);
+    let first = device.write_one(0x04, &none, tape, log, at);
     let answer = first.answer;
     let next = first.at;
     let RawAnswer::Done = answer else {
@@ -19,12 +19,12 @@ pub fn ship_enter(device: BQ769x0, tape: &[u8], log: &mut [u8], at: Cursor) -> R
     };
     let link = device.link;
     let shut_b = [0b0000_0001];
-    let second = raw::write_raw(link, 0x04, &shut_b, tape, log, next);
+    let second = raw::short::write_one(link, 0x04, &shut_b, tape, log, next);
     let answer = second.answer;
     let next = second.at;
     let RawAnswer::Done = answer else {
         return Raw { answer, at: next };
     };
     let shut_a = [0b0000_0010];
-    raw::write_raw(link, 0x04, &shut_a, tape, log, next)
+    raw::short::write_one(link, 0x04, &shut_a, tape, log, next)
 }

@@ -65,5 +65,5 @@ pub fn sys_stat_reset(
     }
     let reset = [flags.bits];
     let link = device.link;
-    raw::write_raw(link, 0x00, &reset, tape, log, at)
+    raw::short::write_one(link, 0x00, &reset, tape, log, at)
 }

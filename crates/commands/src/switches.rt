@@ -68,7 +68,7 @@ fn switch_bit(
         tape log at (asRaw (r .answer)) (r .at) ⌝ }
 {
     let mut sys_ctrl2 = [0u8; 1];
-    let read = device.read_raw(BQ769x0::SYS_CTRL2, &mut sys_ctrl2, tape, log, at);
+    let read = device.read_one(BQ769x0::SYS_CTRL2, &mut sys_ctrl2, tape, log, at);
     let answer = read.answer;
     let next = read.at;
     let RawAnswer::Done = answer else {
@@ -80,5 +80,5 @@ fn switch_bit(
     }
     let changed = [bits::switched(mask, enable, byte)];
     let link = device.link;
-    raw::write_raw(link, BQ769x0::SYS_CTRL2, &changed, tape, log, next)
+    raw::short::write_one(link, BQ769x0::SYS_CTRL2, &changed, tape, log, next)
 }

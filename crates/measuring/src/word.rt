@@ -27,7 +27,7 @@ pub(crate) fn read_word(
 {
     let link = device.link;
     let mut bytes = [0u8; 2];
-    let read = raw::read_raw(link, reg, &mut bytes, tape, log, at);
+    let read = raw::short::read_two(link, reg, &mut bytes, tape, log, at);
     let answer = read.answer;
     let next = read.at;
     match answer {

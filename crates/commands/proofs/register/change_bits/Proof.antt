@@ -8,8 +8,8 @@ use Rattle.commands.proofs.register.change_bits.Statement.{statement}
 use Rattle.commands.proofs.register.change_bits.Tie as tie
 
 -- ---- the places
-abbrev at-read : tie.After-next → tie.After-read-raw
-at-read c = c .before .before .before .before
+abbrev at-read : tie.After-next → tie.After-read-one
+at-read c = c .before .before .before
 
 abbrev at-changed : tie.After-slice-known3 → tie.After-changed
 at-changed c = c .before .before .before .before
@@ -18,11 +18,8 @@ abbrev at-told : tie.After-slice-known3 → tie.After-enum-told
 at-told c = at-changed c .before .before
 
 -- ---- the needs
-slice-aggregate-read-raw : tie.Need-slice-aggregate-read-raw
-slice-aggregate-read-raw c = search needs
-
-read-raw-requires : tie.Need-read-raw-requires
-read-raw-requires c κs = search needs
+read-one-requires : tie.Need-read-one-requires
+read-one-requires c κs = search needs
 
 enum-told : tie.Need-enum-told
 enum-told c = search needs
@@ -35,16 +32,13 @@ same-length c = search needs
 
 returns : tie.Need-returns
 returns c =
-    unread _ _ _ _ (at-read (c .before .before) .read-raw .ensures) (ap asRaw (c .enum-told2 .given .1))
+    unread _ _ _ _ (at-read (c .before .before) .read-one .ensures) (ap asRaw (c .enum-told2 .given .1))
 
-array-read-t20 : tie.Need-array-read-t20
-array-read-t20 c = search needs
+array-read-t19 : tie.Need-array-read-t19
+array-read-t19 c = search needs
 
-slice-aggregate-write-raw : tie.Need-slice-aggregate-write-raw
-slice-aggregate-write-raw c = search needs
-
-write-raw-requires : tie.Need-write-raw-requires
-write-raw-requires c κs = search needs
+write-one-requires : tie.Need-write-one-requires
+write-one-requires c κs = search needs
 
 same-length-2 : tie.Need-same-length-2
 same-length-2 c = search needs
@@ -52,22 +46,20 @@ same-length-2 c = search needs
 returns-2 : tie.Need-returns-2
 unfolding putting
 returns-2 c =
-    c .before .before .write-raw .ensures
-    ∙ replaced _ _ _ _ (at-read (at-told c .before .before) .read-raw .ensures)
+    c .before .before .write-one .ensures
+    ∙ replaced _ _ _ _ (at-read (at-told c .before .before) .read-one .ensures)
     (ap asRaw (at-told c .enum-told .given .1)) refl
 
 pub change-bits-spec : {M : Type 1} → statement M
 change-bits-spec =
     tie.close
     (tie.spec
-    slice-aggregate-read-raw
-    read-raw-requires
+    read-one-requires
     enum-told
     enum-told-2
     same-length
     returns
-    array-read-t20
-    slice-aggregate-write-raw
-    write-raw-requires
+    array-read-t19
+    write-one-requires
     same-length-2
     returns-2)

@@ -66,50 +66,47 @@ module _ (s : tie.Start) where
 abbrev at-start : tie.After-none → tie.Start
 at-start c = c .before .before .before
 
-abbrev at-first : tie.After-next → tie.After-write-raw
+abbrev at-first : tie.After-next → tie.After-write-one
 at-first c = c .before .before .before
 
-abbrev at-told : tie.After-write-raw2 → tie.After-enum-told
+abbrev at-told : tie.After-write-one2 → tie.After-enum-told
 at-told c = c .before .before .before .before
 
-abbrev at-second : tie.After-next2 → tie.After-write-raw2
+abbrev at-second : tie.After-next2 → tie.After-write-one2
 at-second c = c .before .before .before
 
-abbrev at-told-2 : tie.After-write-raw3 → tie.After-enum-told3
+abbrev at-told-2 : tie.After-write-one3 → tie.After-enum-told3
 at-told-2 c = c .before .before .before
 
 -- ---- after the first write
-module _ (c : tie.After-write-raw) where
+module _ (c : tie.After-write-one) where
   abbrev start : tie.Start
   start = at-start (c .before .before)
 
   after-first : Wrote
       start
       (second start)
-      (asRaw (c .write-raw .result .answer))
-      (busOf (now (start .args .tape)) (c .write-raw .last .1 .1 .1 .1 .0) (c .write-raw .result .at))
-  after-first = first-wrote start (c .write-raw .ensures)
+      (asRaw (c .write-one .result .answer))
+      (busOf (now (start .args .tape)) (c .write-one .last .1 .1 .1 .1 .0) (c .write-one .result .at))
+  after-first = first-wrote start (c .write-one .ensures)
 
 -- ---- after the second
-module _ (c : tie.After-write-raw2) where
-  abbrev first : tie.After-write-raw
+module _ (c : tie.After-write-one2) where
+  abbrev first : tie.After-write-one
   first = at-first (at-told c .before .before)
 
   after-second : Wrote
       (start first)
       (third (start first))
-      (asRaw (c .write-raw2 .result .answer))
-      (busOf (now (start first .args .tape)) (c .write-raw2 .last .1 .1 .1 .1 .0) (c .write-raw2 .result .at))
+      (asRaw (c .write-one2 .result .answer))
+      (busOf (now (start first .args .tape)) (c .write-one2 .last .1 .1 .1 .1 .0) (c .write-one2 .result .at))
   after-second =
       second-wrote (start first) _ (after-first first .on (ap asRaw (at-told c .enum-told .given .1)))
-      (c .write-raw2 .ensures)
+      (c .write-one2 .ensures)
 
 -- ---- the needs
-slice-aggregate-write-raw : tie.Need-slice-aggregate-write-raw
-slice-aggregate-write-raw c = search needs
-
-write-raw-requires : tie.Need-write-raw-requires
-write-raw-requires c κs = search needs
+write-one-requires : tie.Need-write-one-requires
+write-one-requires c κs = search needs
 
 enum-told : tie.Need-enum-told
 enum-told c = search needs
@@ -123,11 +120,8 @@ same-length c = search needs
 returns : tie.Need-returns
 returns c = sym (after-first (at-first (c .before .before)) .off (ap asRaw (c .enum-told2 .given .1)))
 
-slice-aggregate-write-raw-2 : tie.Need-slice-aggregate-write-raw-2
-slice-aggregate-write-raw-2 c = search needs
-
-write-raw-requires-2 : tie.Need-write-raw-requires-2
-write-raw-requires-2 c κs = search needs
+write-one-requires-2 : tie.Need-write-one-requires-2
+write-one-requires-2 c κs = search needs
 
 enum-told-3 : tie.Need-enum-told-3
 enum-told-3 c = search needs
@@ -141,18 +135,15 @@ same-length-2 c = search needs
 returns-2 : tie.Need-returns-2
 returns-2 c = sym (after-second (at-second (c .before .before)) .off (ap asRaw (c .enum-told4 .given .1)))
 
-slice-aggregate-write-raw-3 : tie.Need-slice-aggregate-write-raw-3
-slice-aggregate-write-raw-3 c = search needs
-
-write-raw-requires-3 : tie.Need-write-raw-requires-3
-write-raw-requires-3 c κs = search needs
+write-one-requires-3 : tie.Need-write-one-requires-3
+write-one-requires-3 c κs = search needs
 
 same-length-3 : tie.Need-same-length-3
 same-length-3 c = search needs
 
 returns-3 : tie.Need-returns-3
 returns-3 c =
-    c .before .before .write-raw3 .ensures
+    c .before .before .write-one3 .ensures
     ∙ sym (after-second (at-second (at-told-2 (c .before .before) .before .before)) .on
     (ap asRaw (at-told-2 (c .before .before) .enum-told3 .given .1)))
 
@@ -160,19 +151,16 @@ pub ship-enter-spec : {M : Type 1} → statement M
 ship-enter-spec =
     tie.close
     (tie.spec
-    slice-aggregate-write-raw
-    write-raw-requires
+    write-one-requires
     enum-told
     enum-told-2
     same-length
     returns
-    slice-aggregate-write-raw-2
-    write-raw-requires-2
+    write-one-requires-2
     enum-told-3
     enum-told-4
     same-length-2
     returns-2
-    slice-aggregate-write-raw-3
-    write-raw-requires-3
+    write-one-requires-3
     same-length-3
     returns-3)

@@ -68,18 +68,15 @@ has-reserved-requires c κs = search needs
 returns-2 : tie.Need-returns-2
 returns-2 c = unknown (c .before .before) (sym (c .before .has-reserved .ensures) ∙ c .if2 .taken)
 
-slice-aggregate-write-raw : tie.Need-slice-aggregate-write-raw
-slice-aggregate-write-raw c = search needs
-
-write-raw-requires : tie.Need-write-raw-requires
-write-raw-requires c κs = search needs
+write-one-requires : tie.Need-write-one-requires
+write-one-requires c κs = search needs
 
 same-length : tie.Need-same-length
 same-length c = search needs
 
 returns-3 : tie.Need-returns-3
 returns-3 c =
-    c .before .before .write-raw .ensures
+    c .before .before .write-one .ensures
     ∙ known (at-known c .before .before) (sym (at-known c .before .has-reserved .ensures) ∙ at-known c .if2 .left)
 
 pub sys-stat-reset-spec : {M : Type 1} → statement M
@@ -90,7 +87,6 @@ sys-stat-reset-spec =
     returns
     has-reserved-requires
     returns-2
-    slice-aggregate-write-raw
-    write-raw-requires
+    write-one-requires
     same-length
     returns-3)

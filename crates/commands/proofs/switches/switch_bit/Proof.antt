@@ -22,8 +22,8 @@ module _ (mask byte : ℕ) (enable : Bool) {held : Bool} (held-is : held ≡ sta
   differs t x-is = rw (sym held-is ∙ t, x-is)
 
 -- ---- the places
-abbrev at-read : tie.After-next → tie.After-read-raw
-at-read c = c .before .before .before .before
+abbrev at-read : tie.After-next → tie.After-read-one
+at-read c = c .before .before .before
 
 abbrev at-changed : tie.After-slice-known3 → tie.After-changed
 at-changed c = c .before .before .before .before
@@ -36,18 +36,15 @@ at-held c = at-switched c .before .before
 
 -- ---- the bit is tested where the read went well
 module _ (c : tie.After-stands) where
-  abbrev read : tie.After-read-raw
+  abbrev read : tie.After-read-one
   read = at-read (c .before .before .before)
 
-  went : asRaw (read .read-raw .result .answer) ≡ value tt
+  went : asRaw (read .read-one .result .answer) ≡ value tt
   went = ap asRaw (c .before .enum-told .given .1)
 
 -- ---- the needs
-slice-aggregate-read-raw : tie.Need-slice-aggregate-read-raw
-slice-aggregate-read-raw c = search needs
-
-read-raw-requires : tie.Need-read-raw-requires
-read-raw-requires c κs = search needs
+read-one-requires : tie.Need-read-one-requires
+read-one-requires c κs = search needs
 
 enum-told : tie.Need-enum-told
 enum-told c = search needs
@@ -60,7 +57,7 @@ same-length c = search needs
 
 returns : tie.Need-returns
 returns c =
-    unread _ _ _ _ (at-read (c .before .before) .read-raw .ensures) (ap asRaw (c .enum-told2 .given .1))
+    unread _ _ _ _ (at-read (c .before .before) .read-one .ensures) (ap asRaw (c .enum-told2 .given .1))
 
 array-read-byte : tie.Need-array-read-byte
 array-read-byte c = search needs
@@ -73,33 +70,29 @@ same-length-2 c = search needs
 
 returns-2 : tie.Need-returns-2
 returns-2 c =
-    kept _ _ _ _ (read (c .before) .read-raw .ensures) (went (c .before))
+    kept _ _ _ _ (read (c .before) .read-one .ensures) (went (c .before))
     (stood _ _ _ (c .before .stands .ensures) (c .if1 .taken))
 
 switched-requires : tie.Need-switched-requires
 switched-requires c κs = search needs
 
-slice-aggregate-write-raw : tie.Need-slice-aggregate-write-raw
-slice-aggregate-write-raw c = search needs
-
-write-raw-requires : tie.Need-write-raw-requires
-write-raw-requires c κs = search needs
+write-one-requires : tie.Need-write-one-requires
+write-one-requires c κs = search needs
 
 same-length-3 : tie.Need-same-length-3
 same-length-3 c = search needs
 
 returns-3 : tie.Need-returns-3
 returns-3 c =
-    c .before .before .write-raw .ensures
-    ∙ replaced _ _ _ _ (read (at-held c) .read-raw .ensures) (went (at-held c))
+    c .before .before .write-one .ensures
+    ∙ replaced _ _ _ _ (read (at-held c) .read-one .ensures) (went (at-held c))
     (differs _ _ _ (at-held c .stands .ensures) (at-switched c .before .if1 .left) (at-switched c .switched .ensures))
 
 pub switch-bit-spec : {M : Type 1} → statement M
 switch-bit-spec =
     tie.close
     (tie.spec
-    slice-aggregate-read-raw
-    read-raw-requires
+    read-one-requires
     enum-told
     enum-told-2
     same-length
@@ -109,7 +102,6 @@ switch-bit-spec =
     same-length-2
     returns-2
     switched-requires
-    slice-aggregate-write-raw
-    write-raw-requires
+    write-one-requires
     same-length-3
     returns-3)

@@ -38,26 +38,23 @@ module _ (s : tie.Start) where
 abbrev at-start : tie.After-bytes → tie.Start
 at-start c = c .before .before .before .before
 
-abbrev at-read : tie.After-next → tie.After-read-raw
-at-read c = c .before .before .before .before
+abbrev at-read : tie.After-next → tie.After-read-two
+at-read c = c .before .before .before
 
-module _ (c : tie.After-read-raw) where
+module _ (c : tie.After-read-two) where
   abbrev start : tie.Start
   start = at-start (c .before .before)
 
   after-read : Heard
       (whole start)
-      (joined start (c .read-raw .last .1 .1 .0))
-      (asRaw (c .read-raw .result .answer))
-      (busOf (now (start .args .tape)) (c .read-raw .last .1 .1 .1 .1 .0) (c .read-raw .result .at))
-  after-read = read start (c .read-raw .ensures)
+      (joined start (c .read-two .last .1 .1 .0))
+      (asRaw (c .read-two .result .answer))
+      (busOf (now (start .args .tape)) (c .read-two .last .1 .1 .1 .1 .0) (c .read-two .result .at))
+  after-read = read start (c .read-two .ensures)
 
 -- ---- the needs
-slice-aggregate-read-raw : tie.Need-slice-aggregate-read-raw
-slice-aggregate-read-raw c = search needs
-
-read-raw-requires : tie.Need-read-raw-requires
-read-raw-requires c κs = search needs
+read-two-requires : tie.Need-read-two-requires
+read-two-requires c κs = search needs
 
 enum-told : tie.Need-enum-told
 enum-told c = search needs
@@ -92,8 +89,7 @@ pub read-word-spec : {M : Type 1} → statement M
 read-word-spec =
     tie.close
     (tie.spec
-    slice-aggregate-read-raw
-    read-raw-requires
+    read-two-requires
     enum-told
     array-read-be-u16
     array-read-be-u16-2
