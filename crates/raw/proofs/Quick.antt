@@ -13,14 +13,15 @@ use mir.Facts.{or-yes}
 use Rattle.laws.proofs.Tests.{both-right}
 use borrow.Author.Tests.{eq-eqb, ne-eqb}
 use Rattle.check_byte.specs.CheckByte.{checkByte}
-use Rattle.refusals.specs.Refusal.{value}
+use Rattle.refusals.specs.Refusal.{Answer, value}
 use Rattle.refusals.specs.declared.Error.{Error}
 use Rattle.frames.specs.Frames.{readByte, right, dataOf, writeFrame}
 use Rattle.frames.specs.Put.{put}
 use Rattle.frames.proofs.Put.{put-all}
 use Rattle.bus.specs.Transfers.{Transfer, read, write, Bus, busOf}
-use Rattle.bus.specs.Programs.{ran, onTape}
-use Rattle.bus.specs.Raw.{sound, refuses, Read, gives, readRaw, askBack, send, writeRaw}
+use Rattle.bus.specs.Programs.{Prog, Ran, ran, onTape}
+use Rattle.bus.specs.Raw.{Done, sound, refuses, Read, gives, readRaw, askBack, send, writeRaw}
+use Rattle.bus.specs.declared.Cursor.{Cursor}
 use Rattle.bus.specs.declared.link.Link.{Link}
 use Rattle.bus.proofs.Raws.{checked-goes, read-checked, read-plain, send-goes, write-done, write-back}
 use Rattle.raw.specs.Replies.{answerTo, taken, onward, ReadBy, WrittenBy, GotBy, SentBy}
@@ -35,9 +36,13 @@ module _ (t : Transfer) (b : Bus) (buf buf′ log′ : List ℕ) where
   is-got true e g = g
   is-got false e g = absurd (subst T (sym e) tt)
 
-  pub not-got : (r : Bool) → r ≡ false → GotBy t b buf r buf′ log′ → (buf′ ≡ buf) × (log′ ≡ b .log)
-  not-got true e g = absurd (subst T e tt)
-  not-got false e g = g
+  pub buf-kept : (r : Bool) → r ≡ false → GotBy t b buf r buf′ log′ → buf′ ≡ buf
+  buf-kept true e g = absurd (subst T e tt)
+  buf-kept false e g = g .0
+
+  pub log-kept : (r : Bool) → r ≡ false → GotBy t b buf r buf′ log′ → log′ ≡ b .log
+  log-kept true e g = absurd (subst T e tt)
+  log-kept false e g = g .1
 
 module _ (t : Transfer) (b : Bus) (n : ℕ) (log′ : List ℕ) where
   pub is-sent : (r : Bool) → r ≡ true → SentBy t b n r log′ → SentBy t b n true log′
@@ -47,6 +52,18 @@ module _ (t : Transfer) (b : Bus) (n : ℕ) (log′ : List ℕ) where
   pub not-sent : (r : Bool) → r ≡ false → SentBy t b n r log′ → log′ ≡ b .log
   not-sent true e g = absurd (subst T e tt)
   not-sent false e g = g
+
+-- ---- nothing touched: the program is done from the same bus
+pub from-same : {A : Type 0} (p : Prog A) (b : Bus) {log′ : List ℕ} {x : Ran A} → log′ ≡ b .log
+    → x ≡ onTape p (busOf (b .tape) log′ (b .at)) → x ≡ onTape p b
+from-same p b e w = w ∙ ap (λ (l : List ℕ). onTape p (busOf (b .tape) l (b .at))) e
+
+pub read-same : (s : Link) (reg : ℕ) (bytes held : List ℕ) (b : Bus) → held ≡ bytes
+    → {log′ log″ buf : List ℕ} {a : Answer Done} {at : Cursor} → log′ ≡ b .log
+    → ran (gives a buf) (b .tape) log″ at ≡ onTape (readRaw s reg held) (busOf (b .tape) log′ (b .at))
+    → ran (gives a buf) (b .tape) log″ at ≡ onTape (readRaw s reg bytes) b
+read-same s reg bytes held b same e w =
+    from-same (readRaw s reg held) b e w ∙ ap (λ (l : List ℕ). onTape (readRaw s reg l) b) same
 
 -- ---- a list of one and of two, spelled out
 past : (l : List ℕ) (i : ℕ) → length l ≤ i → drop i l ≡ []
@@ -128,7 +145,7 @@ reads-plain false check e s = absurd (subst T (sym s) tt)
 
 -- ---- a frame in the first of an array's zeros
 module _ (zeros frame : List ℕ) (k : ℕ) (size : length frame ≡ k) where
-  pub in-front : take k (frame ++ drop k zeros) ≡ frame
+  in-front : take k (frame ++ drop k zeros) ≡ frame
   in-front = take-at frame (drop k zeros) k size
 
   pub among-zeros : frame ++ drop k zeros ≡ put zeros 0 (take k (frame ++ drop k zeros))
@@ -138,11 +155,20 @@ module _ (zeros frame : List ℕ) (k : ℕ) (size : length frame ≡ k) where
       rw (in-front, size, none)
 
 -- a reply that the transfer was made gives the same for any count of bytes
-pub taken-any : (address : ℕ) (buf frame : List ℕ) (f : Bool) (n m : ℕ)
+taken-any : (address : ℕ) (buf frame : List ℕ) (f : Bool) (n m : ℕ)
     → taken address buf frame (Made f n) ≡ taken address buf frame (Made f m)
 unfolding taken
 taken-any address buf frame true n m = refl
 taken-any address buf frame false n m = refl
+
+-- so for a frame that was read into an array's zeros
+pub taken-front : (address : ℕ) (buf zeros frame : List ℕ) (k : ℕ) (f : Bool) (n m : ℕ) {a : Answer Done} {bytes : List ℕ}
+    → length frame ≡ k → gives a bytes ≡ taken address buf (take k (frame ++ drop k zeros)) (Made f n)
+    → gives a bytes ≡ taken address buf frame (Made f m)
+taken-front address buf zeros frame k f n m size e =
+    e
+    ∙ ap (λ (l : List ℕ). taken address buf l (Made f n)) (in-front zeros frame k size)
+    ∙ taken-any address buf frame f n m
 
 -- and one that it was not, its refusal
 pub taken-stopped : (address : ℕ) (buf frame : List ℕ) {r : Reply} {e : Error} → r ≡ Stopped e

@@ -18,7 +18,7 @@ use Rattle.bus.specs.declared.Cursor.{Cursor}
 use Rattle.bus.specs.declared.link.Link.{Link}
 use Rattle.raw.specs.Replies.{onward, GotBy, SentBy}
 use Rattle.raw.proofs.Asked.{back-on}
-use Rattle.raw.proofs.Quick.{sent-well, sent-back}
+use Rattle.raw.proofs.Quick.{from-same, sent-well, sent-back}
 
 -- ---- a list of six, spelled out
 pub six : (l : List ℕ) → length l ≡ 6
@@ -59,11 +59,6 @@ module _ (address reg : ℕ) where
   pub plain-frame : (bytes : List ℕ) → reg ∷ bytes ≡ writeFrame false address reg bytes
   unfolding writeFrame framed
   plain-frame bytes = refl
-
--- ---- nothing touched: the program is done from the same bus
-pub from-same : {A : Type 0} (p : Prog A) (b : Bus) {log′ : List ℕ} {x : Ran A} → log′ ≡ b .log
-    → x ≡ onTape p (busOf (b .tape) log′ (b .at)) → x ≡ onTape p b
-from-same p b e w = w ∙ ap (λ (l : List ℕ). onTape p (busOf (b .tape) l (b .at))) e
 
 -- ---- read back by the short way
 pub back-well : (address reg : ℕ) (bytes : List ℕ) (b : Bus) (back : List ℕ) {back′ log′ : List ℕ} {x : Answer Done} {at : Cursor}

@@ -17,7 +17,7 @@ use Rattle.bus.specs.Raw.{sound, Read, gives, readRaw}
 use Rattle.bus.proofs.Raws.{zeros, sound-x}
 use Rattle.raw.specs.Replies.{taken, onward, GotBy}
 use Rattle.raw.specs.declared.transfer.Reply.the-variants.{Made}
-use Rattle.raw.proofs.Quick.{is-got, not-got, in-front, among-zeros, taken-any, read-well, frame-well}
+use Rattle.raw.proofs.Quick.{is-got, buf-kept, log-kept, read-same, among-zeros, taken-front, read-well, frame-well}
 use borrow.Author.Needs.{needs}
 use Rattle.raw.proofs.read_raw.Statement.{statement}
 use Rattle.raw.proofs.read_raw.Tie as tie
@@ -49,14 +49,22 @@ module _ (c : tie.After-struct-known2) where
   within t = leb-true _ _ (and-eq-true-iff (asked .is-sound .result) _ .0 t .1)
 
 -- ---- nothing is touched where the long way begins
-untouched : (c : tie.Joined1)
-    → (c .if1 .«data» ≡ bytes (c .before)) × (c .if1 .log ≡ now (start (c .before) .args .log))
+untouched : (c : tie.Joined1) → c .if1 .log ≡ now (start (c .before) .args .log)
 untouched c =
     elim (c .if1 .came) [
-      | inl (if1, frame, got-arg, got, frame2, log′, known, if2, d, l) ↦ (d, l ∙ not-got _ _ _ _ _ _ (if2 .left) (got .ensures) .1)
+      | inl (if1, frame, got-arg, got, frame2, log′, known, if2, d, l) ↦ l ∙ log-kept _ _ _ _ _ _ (if2 .left) (got .ensures)
       | inr (inl (if1, known, if3, got-arg2, got-arg3, got2, data2, known5, log2, known6, if4, d, l)) ↦
-          let n = not-got _ _ _ _ _ _ (if4 .left) (got2 .ensures) in (d ∙ n .0, l ∙ n .1)
-      | inr (inr (if1, known, if3, d, l)) ↦ (d, l)
+          l ∙ log-kept _ _ _ _ _ _ (if4 .left) (got2 .ensures)
+      | inr (inr (if1, known, if3, d, l)) ↦ l
+    ]
+
+unread : (c : tie.Joined1) → c .if1 .«data» ≡ bytes (c .before)
+unread c =
+    elim (c .if1 .came) [
+      | inl (if1, frame, got-arg, got, frame2, log′, known, if2, d, l) ↦ d
+      | inr (inl (if1, known, if3, got-arg2, got-arg3, got2, data2, known5, log2, known6, if4, d, l)) ↦
+          d ∙ buf-kept _ _ _ _ _ _ (if4 .left) (got2 .ensures)
+      | inr (inr (if1, known, if3, d, l)) ↦ d
     ]
 
 -- ---- with check bytes
@@ -129,6 +137,24 @@ module _ (c : tie.Then2) where
 abbrev at-test : tie.After-slice-known4 → tie.Then2
 at-test c = c .before .before .before .before .before
 
+-- ---- without
+module _ (c : tie.Then4) where
+  abbrev plain : tie.After-got2
+  plain = c .before .before .before .before .before
+
+  abbrev p : tie.Then3
+  p = plain .before .before .before
+
+  abbrev q : tie.After-struct-known2
+  q = p .before .before .before
+
+  without : (tested q ≡ true) × (not (start q .args .link .check) ≡ true)
+  without = and-eq-true-iff _ _ .0 (p .if3 .taken)
+
+  was-got : GotBy (read (start q .args .link .address) (start q .args .reg-address) (length (bytes q))) (bus q) (bytes q) true
+      (plain .got2 .last .1 .1 .0) (plain .got2 .last .1 .1 .1 .1 .0)
+  was-got = is-got _ _ _ _ _ _ (c .if4 .taken) (plain .got2 .ensures)
+
 -- ---- the needs
 is-sound-requires : tie.Need-is-sound-requires
 is-sound-requires c κs = search needs
@@ -185,10 +211,8 @@ returns c =
     let a = start (k (t i)) .args in
     rw (c .further .ensures)
     (checked i
-    (c .before .before .before .take-frame .ensures
-    ∙ ap (λ (l : List ℕ). taken (a .link .address) (now (a .«data»)) l (Made false (2 * n (t i))))
-    (in-front (replicate 66 0) (frame i) (2 * n (t i)) (size i))
-    ∙ taken-any (a .link .address) (now (a .«data»)) (frame i) false (2 * n (t i)) (length (zero i))))
+    (taken-front (a .link .address) (now (a .«data»)) (replicate 66 0) (frame i) (2 * n (t i)) false (2 * n (t i)) (length (zero i)) (size i)
+    (c .before .before .before .take-frame .ensures)))
 
 got-requires-2 : tie.Need-got-requires-2
 got-requires-2 c κs =
@@ -199,9 +223,7 @@ add-further-2 : tie.Need-add-further-2
 add-further-2 c = search needs
 
 further-requires-2 : tie.Need-further-requires-2
-further-requires-2 c κs =
-    let g = is-got _ _ _ _ _ _ (c .if4 .taken) (c .before .before .before .before .before .got2 .ensures) in
-    (omega (arith, g .1 .0), omega (arith, g .1 .1))
+further-requires-2 c κs = (omega (arith, was-got c .1 .0), omega (arith, was-got c .1 .1))
 
 same-length-3 : tie.Need-same-length-3
 same-length-3 c = search needs
@@ -211,13 +233,10 @@ same-length-4 c = search needs
 
 returns-2 : tie.Need-returns-2
 returns-2 c =
-    let g = c .before .before .before .before .before .before in
-    let p = g .before .before .before in
-    let q = p .before .before .before in
-    let t = and-eq-true-iff _ _ .0 (p .if3 .taken) in
+    let i = c .before in
     rw (c .further2 .ensures)
-    (read-well (start q .args .link) (start q .args .reg-address) (bytes q) (bus q) (is-sound q (t .0)) (within q (t .0))
-    (not-true _ (t .1)) (is-got _ _ _ _ _ _ (c .before .if4 .taken) (g .got2 .ensures)))
+    (read-well (start (q i) .args .link) (start (q i) .args .reg-address) (bytes (q i)) (bus (q i)) (is-sound (q i) (without i .0))
+    (within (q i) (without i .0)) (not-true _ (without i .1)) (was-got i))
 
 read-long-requires : tie.Need-read-long-requires
 read-long-requires c κs = search needs
@@ -225,21 +244,19 @@ read-long-requires c κs = search needs
 same-length-5 : tie.Need-same-length-5
 same-length-5 c =
     let j = c .before .before .before .before .before .before .before in
-    c .before .before .before .before .read-long .kept .1 .1 .0 ∙ ap length (untouched j .0)
+    c .before .before .before .before .read-long .kept .1 .1 .0 ∙ ap length (unread j)
 
 same-length-6 : tie.Need-same-length-6
 same-length-6 c =
     let j = c .before .before .before .before .before .before .before in
-    c .before .before .before .before .read-long .kept .1 .1 .1 .1 .0 ∙ ap length (untouched j .1)
+    c .before .before .before .before .read-long .kept .1 .1 .1 .1 .0 ∙ ap length (untouched j)
 
 returns-3 : tie.Need-returns-3
 returns-3 c =
     let j = c .before .before .before .before .before .before .before in
-    let a = start (j .before) .args in
-    c .before .before .before .before .read-long .ensures
-    ∙ ap (λ (l : List ℕ). onTape (readRaw (a .link) (a .reg-address) l) (busOf (now (a .tape)) (j .if1 .log) (a .at))) (untouched j .0)
-    ∙ ap (λ (l : List ℕ). onTape (readRaw (a .link) (a .reg-address) (bytes (j .before))) (busOf (now (a .tape)) l (a .at)))
-    (untouched j .1)
+    let k = j .before in
+    read-same (start k .args .link) (start k .args .reg-address) (bytes k) _ (bus k) (unread j) (untouched j)
+    (c .before .before .before .before .read-long .ensures)
 
 pub read-raw-spec : {M : Type 1} → statement M
 read-raw-spec =

@@ -13,7 +13,7 @@ use Rattle.bus.specs.Raw.{Done, gives}
 use Rattle.raw.specs.Replies.{taken, ReadBy}
 use Rattle.raw.specs.declared.transfer.Reply.the-variants.{Made}
 use Rattle.raw.proofs.Asked.{frame-read}
-use Rattle.raw.proofs.Quick.{in-front, among-zeros, taken-any, taken-stopped, into-zeros}
+use Rattle.raw.proofs.Quick.{among-zeros, taken-front, taken-stopped, into-zeros}
 use borrow.Author.Needs.{needs}
 use Rattle.raw.proofs.long.read_frame.Statement.{statement}
 use Rattle.raw.proofs.long.read_frame.Tie as tie
@@ -102,9 +102,8 @@ returns-2 c =
     let a = start t .args in
     let f = r .reply .given .0 .0 in
     frame-read (a .address) (a .reg) (now (a .«data»)) (bus t) _ (frame t) (log t) _
-    (c .before .before .take-frame .ensures
-    ∙ ap (λ (l : List ℕ). taken (a .address) (now (a .«data»)) l (Made f (2 * n t))) (in-front (replicate 66 0) (frame t) (2 * n t) (size t))
-    ∙ taken-any (a .address) (now (a .«data»)) (frame t) f (2 * n t) (r .reply .given .0 .1 .0)
+    (taken-front (a .address) (now (a .«data»)) (replicate 66 0) (frame t) (2 * n t) f (2 * n t) (r .reply .given .0 .1 .0) (size t)
+    (c .before .before .take-frame .ensures)
     ∙ sym (ap (taken (a .address) (now (a .«data»)) (frame t)) (r .reply .given .1)))
     (was-read t)
 

@@ -5,17 +5,17 @@ use mathlib.Core.Logic.{_⊎_, inl, inr}
 use mathlib.Core.List.{List, [], _∷_}
 use Prim.Native.Nat.{ℕ, _+_, _≤_}
 use native.Mathlib.Omega.{arith}
-use lib.ListN.{length}
+use lib.ListN.{length, replicate}
 use lib.Dec.{leb}
 use borrow.Author.Tests.{leb-true}
 use denote.Ref.{now}
-use Rattle.bus.specs.Transfers.{Bus, busOf}
+use Rattle.bus.specs.Transfers.{Bus, busOf, read}
 use Rattle.bus.specs.Programs.{ran, onTape}
 use Rattle.refusals.specs.Refusal.{value}
 use Rattle.bus.specs.Raw.{sound, Read, gives, readRaw}
-use Rattle.raw.specs.Replies.{taken, onward}
+use Rattle.raw.specs.Replies.{taken, onward, GotBy}
 use Rattle.raw.specs.declared.transfer.Reply.the-variants.{Made}
-use Rattle.raw.proofs.Quick.{two, five, is-got, not-got, reads-plain, read-well, frame-well}
+use Rattle.raw.proofs.Quick.{two, five, is-got, log-kept, read-same, reads-plain, read-well, frame-well}
 use borrow.Author.Needs.{needs}
 use Rattle.raw.proofs.short.read_two.Statement.{statement}
 use Rattle.raw.proofs.short.read_two.Tie as tie
@@ -47,14 +47,12 @@ module _ (c : tie.After-struct-known) where
   within t = omega (arith, size, leb-true (start .args .reg) 254 (and-eq-true-iff (asked .is-sound .result) _ .0 t .1))
 
 -- ---- nothing is touched where the long way begins
-untouched : (c : tie.Joined1)
-    → (c .if1 .«data» ≡ bytes (c .before)) × (c .if1 .log ≡ now (start (c .before) .args .log))
+untouched : (c : tie.Joined1) → c .if1 .log ≡ now (start (c .before) .args .log)
 untouched c =
     elim (c .if1 .came) [
-      | inl (if1, frame, got-arg, got, frame2, log′, known, if2, d, l) ↦ (d, l ∙ not-got _ _ _ _ _ _ (if2 .left) (got .ensures) .1)
-      | inr (inl (if1, if3, got-arg2, got-arg3, got2, log2, known, if4, d, l)) ↦
-          let n = not-got _ _ _ _ _ _ (if4 .left) (got2 .ensures) in (d ∙ n .0, l ∙ n .1)
-      | inr (inr (if1, if3, d, l)) ↦ (d, l)
+      | inl (if1, frame, got-arg, got, frame2, log′, known, if2, d, l) ↦ l ∙ log-kept _ _ _ _ _ _ (if2 .left) (got .ensures)
+      | inr (inl (if1, if3, got-arg2, got-arg3, got2, log2, known, if4, d, l)) ↦ l ∙ log-kept _ _ _ _ _ _ (if4 .left) (got2 .ensures)
+      | inr (inr (if1, if3, d, l)) ↦ l
     ]
 
 -- ---- the places, each from a later one
@@ -72,6 +70,10 @@ module _ (c : tie.Then2) where
   abbrev framed : tie.After-got
   framed = c .before .before .before .before
 
+  was-framed : GotBy (read (start k .args .link .address) (start k .args .reg) 4) (bus k) (replicate 4 0) true
+      (framed .got .last .1 .1 .0) (framed .got .last .1 .1 .1 .1 .0)
+  was-framed = is-got _ _ _ _ _ _ (c .if2 .taken) (framed .got .ensures)
+
   checked : {x : Read} → x ≡ taken (start k .args .link .address) (bytes k) (framed .got .last .1 .1 .0) (Made false 4)
       → ran x (bus k .tape) (framed .got .last .1 .1 .1 .1 .0) (onward (bus k .at) 7 7)
       ≡ onTape (readRaw (start k .args .link) (start k .args .reg) (bytes k)) (bus k)
@@ -80,7 +82,7 @@ module _ (c : tie.Then2) where
       let ok = is-sound k (both .0) in
       frame-well (start k .args .link) (start k .args .reg) (bytes k) (bus k) ok (within k (both .0)) x (both .1)
       (omega (arith, size k, five (start k .args .link) ok)) (λ z. omega (arith, size k, z))
-      (rw (size k)) (is-got _ _ _ _ _ _ (c .if2 .taken) (framed .got .ensures)) e
+      (rw (size k)) was-framed e
 
 module _ (c : tie.Then4) where
   abbrev p : tie.Then3
@@ -152,17 +154,14 @@ read-long-requires c κs = search needs
 same-length-3 : tie.Need-same-length-3
 same-length-3 c =
     c .before .before .before .read-long .kept .1 .1 .1 .1 .0
-    ∙ ap length (untouched (c .before .before .before .before .before .before) .1)
+    ∙ ap length (untouched (c .before .before .before .before .before .before))
 
 returns-3 : tie.Need-returns-3
 returns-3 c =
     let j = c .before .before .before .before .before .before in
-    let a = start (j .before) .args in
-    c .before .before .before .read-long .ensures
-    ∙ ap (λ (l : List ℕ). onTape (readRaw (a .link) (a .reg) l) (busOf (now (a .tape)) (j .if1 .log) (a .at)))
-    (sym (two (bytes (j .before)) (size (j .before))))
-    ∙ ap (λ (l : List ℕ). onTape (readRaw (a .link) (a .reg) (bytes (j .before))) (busOf (now (a .tape)) l (a .at)))
-    (untouched j .1)
+    let k = j .before in
+    read-same (start k .args .link) (start k .args .reg) (bytes k) _ (bus k) (sym (two (bytes k) (size k))) (untouched j)
+    (c .before .before .before .read-long .ensures)
 
 pub read-two-spec : {M : Type 1} → statement M
 read-two-spec =
