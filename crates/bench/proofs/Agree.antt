@@ -3,7 +3,7 @@
 use mathlib.Core.Path.{_≡_, sym, ap, _∙_}
 use Prim.Native.Nat.{ℕ}
 use mathlib.Core.List.{List}
-use Rattle.bench.specs.Calls.{Given, given, GivenBoth, shownBy}
+use Rattle.bench.specs.Calls.{Given, given}
 
 pub given-agree : (x : Given) (n n′ : ℕ) (out out′ log log′ lent lent′ : List ℕ)
     → given n out log lent ≡ x → given n′ out′ log′ lent′ ≡ x
@@ -15,14 +15,3 @@ given-agree x n n′ out out′ log log′ lent lent′ e e′ =
       ap (λ (g : Given). g .log) same,
       ap (λ (g : Given). g .lent) same,
     )
-
-pub shown-agree : (x : GivenBoth) (n n′ : ℕ) (out out′ log log′ inputs inputs′ list list′ : List ℕ)
-    → shownBy n out log inputs list ≡ x
-    → shownBy n′ out′ log′ inputs′ list′ ≡ x
-    → ((n ≡ n′) × (out ≡ out′) × (log ≡ log′) × (list ≡ list′)) × (inputs ≡ inputs′)
-shown-agree x n n′ out out′ log log′ inputs inputs′ list list′ e e′ = (
-  given-agree (x .given) n n′ out out′ log log′ list list′
-      (ap (λ (g : GivenBoth). g .given) e)
-      (ap (λ (g : GivenBoth). g .given) e′),
-  ap (λ (g : GivenBoth). g .inputs) (e ∙ sym e′),
-)

@@ -1,2 +1,2 @@
 pub mod Agree
-mod OnRecord
+pub mod OnRecord

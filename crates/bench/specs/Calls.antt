@@ -1,22 +1,24 @@
 -- What the bench's C is given of a call: a number, three numbers in out, the log,
 -- and the bytes or numbers that it lent.
 -- Assumes nothing.
-use Prim.Native.Nat.{ℕ}
+use Prim.Native.Nat.{ℕ, _+_}
 use mathlib.Core.Bool.{Bool, not}
 use mathlib.Core.List.{List, [], _∷_}
 use lib.Dec.{eqb}
-use lib.IntN.{ℤ}
 use Rattle.numbers.specs.Numbers.{asU32, asI8}
-use Rattle.refusals.specs.Refusal.{Answer, value, refused, numberOf}
+use Rattle.refusals.specs.Refusal.{Refusal, Answer, value, refused}
 use Rattle.adc.specs.declared.transfer.AdcTransferFunction.{AdcTransferFunction}
+use Rattle.bus.specs.Transfers.{Bus}
 use Rattle.bus.specs.Programs.{Ran}
-use Rattle.bus.specs.Raw.{Read}
+use Rattle.bus.specs.Raw.{Done, Read}
 use Rattle.bus.specs.declared.Cursor.{Cursor}
 use Rattle.bus.specs.declared.link.Link.{Link}
 use Rattle.bq769x0.specs.Record.{ofParts}
 use Rattle.bq769x0.specs.declared.BQ769x0.{BQ769x0}
 use Rattle.procedure.specs.Cells.{Filled}
-use Rattle.procedure.specs.Wired.{Shown}
+use Rattle.measuring.specs.declared.degrees.Temperature.{Temperature}
+use Rattle.measuring.specs.declared.degrees.Temperature.the-variants as T
+use Rattle.bench.specs.declared.told.Told.{Told}
 
 abbrev pub linkBy : ℕ → ℕ → Bool → Link
 linkBy x address check = record { address = address; check = check; x = x }
@@ -27,13 +29,28 @@ recordBy x n address check gain b51 shunt =
     let adc : AdcTransferFunction = record { gain = gain; offset = asI8 b51 } in
     ofParts (linkBy x address check) n adc (record { 0 = shunt }) (not (eqb shunt 0))
 
--- the current, below zero as 2^32 less its size; 0 where there is none
-abbrev pub flowOf : Answer ℤ → ℕ
-flowOf (value current) = asU32 current
-flowOf (refused r) = 0
+-- ---- an answer in numbers: 0 and its value as a number, or the refusal's number and 0
+abbrev pub toldNo : Refusal → Told
+toldNo r = record { number = r .number; value = 0 }
+
+abbrev pub told : {A : Type 0} → (A → ℕ) → Answer A → Told
+told inNumber (value a) = record { number = 0; value = inNumber a }
+told inNumber (refused r) = toldNo r
+
+-- a call that has nothing to hand back
+abbrev pub nothing : Done → ℕ
+nothing done = 0
+
+abbrev pub itself : ℕ → ℕ
+itself n = n
+
+-- the degrees, and 2^32 more where a thermistor has them
+abbrev pub sensed : Temperature → ℕ
+sensed (T.InternalDie t) = asU32 (t .0)
+sensed (T.ExternalThermistor t) = 4_294_967_296 + asU32 (t .0)
 
 abbrev pub outOf : Cursor → ℕ → List ℕ
-outOf at flow = at .tape ∷ at .log ∷ flow ∷ []
+outOf at n = at .tape ∷ at .log ∷ n ∷ []
 
 pub record Given : Type 0 where
   pub number : ℕ
@@ -44,23 +61,16 @@ pub record Given : Type 0 where
 abbrev pub given : ℕ → List ℕ → List ℕ → List ℕ → Given
 given number out log lent = record { number = number; out = out; log = log; lent = lent }
 
+abbrev pub givenOf : Told → Bus → List ℕ → Given
+givenOf t b lent = given (t .number) (outOf (b .at) (t .value)) (b .log) lent
+
+-- an answer that is no more than its value, where nothing was lent but tape and log
+abbrev pub asTold : {A : Type 0} → (A → ℕ) → Ran (Answer A) → Given
+asTold inNumber r = givenOf (told inNumber (r .answer)) (r .bus) []
+
+-- with the bytes that a read filled, or the list
 abbrev pub asRead : Ran Read → Given
-asRead r = given (numberOf (r .answer .answer)) (outOf (r .bus .at) 0) (r .bus .log) (r .answer .bytes)
+asRead r = givenOf (told nothing (r .answer .answer)) (r .bus) (r .answer .bytes)
 
 abbrev pub asCells : Ran Filled → Given
-asCells r = given (numberOf (r .answer .answer)) (outOf (r .bus .at) 0) (r .bus .log) (r .answer .list)
-
-abbrev pub asFlow : Ran (Answer ℤ) → Given
-asFlow r = given (numberOf (r .answer)) (outOf (r .bus .at) (flowOf (r .answer))) (r .bus .log) []
-
--- with the inputs' numbers, that C lends beside the list
-pub record GivenBoth : Type 0 where
-  pub given : Given
-  pub inputs : List ℕ
-
-abbrev pub shownBy : ℕ → List ℕ → List ℕ → List ℕ → List ℕ → GivenBoth
-shownBy number out log inputs list = record { given = given number out log list; inputs = inputs }
-
-abbrev pub asShown : Ran Shown → GivenBoth
-asShown r =
-    shownBy (numberOf (r .answer .answer)) (outOf (r .bus .at) 0) (r .bus .log) (r .answer .inputs) (r .answer .list)
+asCells r = givenOf (told nothing (r .answer .answer)) (r .bus) (r .answer .list)

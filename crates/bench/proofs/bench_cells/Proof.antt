@@ -21,13 +21,13 @@ at-record c = c .before .before .before
 abbrev at-start : tie.After-cell-voltages → tie.Start
 at-start c = at-record c .before .before .before .before
 
-abbrev at-at : tie.After-number-of → tie.After-at
+abbrev at-at : tie.After-put-out → tie.After-at
 at-at c = c .before .before .before
 
 abbrev at-lent : tie.After-at → tie.After-slice-known3
 at-lent c = c .before .before .before
 
-abbrev at-cells : tie.After-number-of → tie.After-cell-voltages
+abbrev at-cells : tie.After-put-out → tie.After-cell-voltages
 at-cells c = at-lent (at-at c) .before .before
 
 -- ---- the needs
@@ -37,11 +37,11 @@ record-by-requires c κs = search needs
 cell-voltages-requires : tie.Need-cell-voltages-requires
 cell-voltages-requires c κs = search needs
 
+done-requires : tie.Need-done-requires
+done-requires c κs = search needs
+
 put-out-requires : tie.Need-put-out-requires
 put-out-requires c κs = search needs
-
-number-of-requires : tie.Need-number-of-requires
-number-of-requires c κs = search needs
 
 same-length : tie.Need-same-length
 same-length c = search needs
@@ -51,7 +51,7 @@ same-length-2 c = search needs
 
 returns : tie.Need-returns
 returns c =
-    rw (c .number-of .ensures, c .before .put-out .ensures)
+    rw (c .put-out .ensures .0, c .put-out .ensures .1, c .before .done .ensures)
     (on-record asCells (reading (at-start (at-cells c))) _
     (at-record (at-cells c) .record-by .ensures) (at-cells c .cell-voltages .ensures))
 
@@ -61,8 +61,8 @@ bench-cells-spec =
     (tie.spec
     record-by-requires
     cell-voltages-requires
+    done-requires
     put-out-requires
-    number-of-requires
     same-length
     same-length-2
     returns)

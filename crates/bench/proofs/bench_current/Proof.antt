@@ -1,6 +1,7 @@
 -- `bench::bench_current` meets its contract. Assumes nothing.
+use Rattle.numbers.specs.Numbers.{asU32}
 use Rattle.measuring.specs.Pack.{current}
-use Rattle.bench.specs.Calls.{asFlow}
+use Rattle.bench.specs.Calls.{asTold}
 use Rattle.bench.proofs.OnRecord.{on-record}
 use borrow.Author.Needs.{needs}
 use Rattle.bench.proofs.bench_current.Statement.{statement}
@@ -10,11 +11,11 @@ use Rattle.bench.proofs.bench_current.Tie as tie
 abbrev at-record : tie.After-current → tie.After-record-by
 at-record c = c .before .before
 
-abbrev at-answer : tie.After-number-of-current → tie.After-put-out-arg
-at-answer c = c .before .before .before
+abbrev at-at : tie.After-put-out → tie.After-at
+at-at c = c .before .before .before
 
-abbrev at-current : tie.After-number-of-current → tie.After-current
-at-current c = at-answer c .before .before .before .before
+abbrev at-call : tie.After-put-out → tie.After-current
+at-call c = at-at c .before .before .before
 
 -- ---- the needs
 record-by-requires : tie.Need-record-by-requires
@@ -23,22 +24,19 @@ record-by-requires c κs = search needs
 current-requires : tie.Need-current-requires
 current-requires c κs = search needs
 
-flow-of-requires : tie.Need-flow-of-requires
-flow-of-requires c κs = search needs
+flow-requires : tie.Need-flow-requires
+flow-requires c κs = search needs
 
 put-out-requires : tie.Need-put-out-requires
 put-out-requires c κs = search needs
-
-number-of-current-requires : tie.Need-number-of-current-requires
-number-of-current-requires c κs = search needs
 
 same-length : tie.Need-same-length
 same-length c = search needs
 
 returns : tie.Need-returns
 returns c =
-    rw (c .number-of-current .ensures, c .before .put-out .ensures, c .before .before .flow-of .ensures)
-    (on-record asFlow current _ (at-record (at-current c) .record-by .ensures) (at-current c .current .ensures))
+    rw (c .put-out .ensures .0, c .put-out .ensures .1, c .before .flow .ensures)
+    (on-record (asTold asU32) current _ (at-record (at-call c) .record-by .ensures) (at-call c .current .ensures))
 
 pub bench-current-spec : {M : Type 1} → statement M
 bench-current-spec =
@@ -46,8 +44,7 @@ bench-current-spec =
     (tie.spec
     record-by-requires
     current-requires
-    flow-of-requires
+    flow-requires
     put-out-requires
-    number-of-current-requires
     same-length
     returns)

@@ -6,7 +6,7 @@ use Rattle.bench.proofs.bench_read_raw.Statement.{statement}
 use Rattle.bench.proofs.bench_read_raw.Tie as tie
 
 -- ---- the places, each from a later one
-abbrev at-at : tie.After-number-of → tie.After-at
+abbrev at-at : tie.After-put-out → tie.After-at
 at-at c = c .before .before .before
 
 abbrev at-lent : tie.After-at → tie.After-slice-known3
@@ -19,11 +19,11 @@ at-read c = c .before .before
 read-raw-requires : tie.Need-read-raw-requires
 read-raw-requires c κs = search needs
 
+done-requires : tie.Need-done-requires
+done-requires c κs = search needs
+
 put-out-requires : tie.Need-put-out-requires
 put-out-requires c κs = search needs
-
-number-of-requires : tie.Need-number-of-requires
-number-of-requires c κs = search needs
 
 same-length : tie.Need-same-length
 same-length c = search needs
@@ -33,16 +33,10 @@ same-length-2 c = search needs
 
 returns : tie.Need-returns
 returns c =
-    rw (c .number-of .ensures, c .before .put-out .ensures)
+    rw (c .put-out .ensures .0, c .put-out .ensures .1, c .before .done .ensures)
     (ap asRead (at-read (at-lent (at-at c)) .read-raw .ensures))
 
 pub bench-read-raw-spec : {M : Type 1} → statement M
 bench-read-raw-spec =
     tie.close
-    (tie.spec
-    read-raw-requires
-    put-out-requires
-    number-of-requires
-    same-length
-    same-length-2
-    returns)
+    (tie.spec read-raw-requires done-requires put-out-requires same-length same-length-2 returns)

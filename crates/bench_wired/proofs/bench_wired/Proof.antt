@@ -1,13 +1,13 @@
--- `bench::bench_wired` meets its contract. Assumes nothing.
+-- `bench_wired::bench_wired` meets its contract. Assumes nothing.
 use denote.Ref.{now}
 use Rattle.bq769x0.specs.declared.BQ769x0.{BQ769x0}
 use Rattle.bus.specs.Programs.{Prog}
 use Rattle.procedure.specs.Wired.{Shown, wired}
-use Rattle.bench.specs.Calls.{asShown}
 use Rattle.bench.proofs.OnRecord.{on-record}
+use Rattle.bench_wired.specs.Both.{asShown}
 use borrow.Author.Needs.{needs}
-use Rattle.bench.proofs.bench_wired.Statement.{statement}
-use Rattle.bench.proofs.bench_wired.Tie as tie
+use Rattle.bench_wired.proofs.bench_wired.Statement.{statement}
+use Rattle.bench_wired.proofs.bench_wired.Tie as tie
 
 -- ---- what is read of a record
 module _ (s : tie.Start) where
@@ -24,13 +24,13 @@ at-lists c = c .before .before .before
 abbrev at-start : tie.After-wired → tie.Start
 at-start c = at-lists (at-record c) .before .before
 
-abbrev at-at : tie.After-number-of → tie.After-at
+abbrev at-at : tie.After-put-out → tie.After-at
 at-at c = c .before .before .before
 
 abbrev at-lent : tie.After-at → tie.After-slice-known5
 at-lent c = c .before .before .before
 
-abbrev at-wired : tie.After-number-of → tie.After-wired
+abbrev at-wired : tie.After-put-out → tie.After-wired
 at-wired c = at-lent (at-at c) .before .before .before .before
 
 -- ---- the needs
@@ -40,11 +40,11 @@ record-by-requires c κs = search needs
 wired-requires : tie.Need-wired-requires
 wired-requires c κs = search needs
 
+done-requires : tie.Need-done-requires
+done-requires c κs = search needs
+
 put-out-requires : tie.Need-put-out-requires
 put-out-requires c κs = search needs
-
-number-of-requires : tie.Need-number-of-requires
-number-of-requires c κs = search needs
 
 same-length : tie.Need-same-length
 same-length c = search needs
@@ -57,7 +57,7 @@ same-length-3 c = search needs
 
 returns : tie.Need-returns
 returns c =
-    rw (c .number-of .ensures, c .before .put-out .ensures)
+    rw (c .put-out .ensures .0, c .put-out .ensures .1, c .before .done .ensures)
     (on-record asShown (reading (at-start (at-wired c))) _
     (at-record (at-wired c) .record-by .ensures) (at-wired c .wired .ensures))
 
@@ -67,8 +67,8 @@ bench-wired-spec =
     (tie.spec
     record-by-requires
     wired-requires
+    done-requires
     put-out-requires
-    number-of-requires
     same-length
     same-length-2
     same-length-3
