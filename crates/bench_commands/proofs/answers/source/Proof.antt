@@ -1,0 +1,33 @@
+-- `bench_commands::answers::source` meets its contract. Assumes nothing.
+use borrow.Author.Needs.{needs}
+use Rattle.bench_commands.proofs.answers.source.Statement.{statement}
+use Rattle.bench_commands.proofs.answers.source.Tie as tie
+
+enum-known-answer : tie.Need-enum-known-answer
+enum-known-answer c = search needs
+
+code-of-requires : tie.Need-code-of-requires
+code-of-requires c κs = search needs
+
+enum-known-answer-2 : tie.Need-enum-known-answer-2
+enum-known-answer-2 c = search needs
+
+refused-requires : tie.Need-refused-requires
+refused-requires c κs = search needs
+
+returns : tie.Need-returns
+returns c = rw (c .code-of .ensures, c .before .before .answer .given .1)
+
+returns-2 : tie.Need-returns-2
+returns-2 c = rw (c .refused .ensures, c .before .before .answer2 .given .1)
+
+pub source-spec : {M : Type 1} → statement M
+source-spec =
+    tie.close
+    (tie.spec
+    enum-known-answer
+    code-of-requires
+    enum-known-answer-2
+    refused-requires
+    returns
+    returns-2)
