@@ -151,3 +151,67 @@ pub fn read_raw(record: &Record, reg: u8, data: &mut [u8], bus: &mut Bus) -> Fou
     }
     by_size!(record.x, on(record, reg, data, bus))
 }
+
+/// The calls that are the crate's own and no more: each with its arguments, what it is asked of the device, and its answer as numbers.
+macro_rules! on_record {
+    ($($call:ident($($argument:ident: $type:ty),*): |$device:ident, $bus:ident| $asked:expr, $told:expr;)*) => {$(
+        pub fn $call(record: &Record, $($argument: $type,)* bus: &mut Bus) -> Found {
+            fn on<const X: usize>(record: &Record, $($argument: $type,)* $bus: &mut Bus) -> Result<[u32; 5], Found>
+            where
+                [(); X * 2]: Sized,
+                [(); X * 4]: Sized,
+            {
+                let mut $device = device::<X>(record);
+                let answer = $asked;
+                heard($bus, answer).map($told)
+            }
+            by_size!(record.x, on(record, $($argument,)* bus))
+        }
+    )*};
+}
+
+fn done((): ()) -> [u32; 5] {
+    [0; 5]
+}
+
+fn one(number: u32) -> [u32; 5] {
+    [number, 0, 0, 0, 0]
+}
+
+/// The degrees, and then 1 where a thermistor has them.
+fn degrees(read: Temperature) -> [u32; 5] {
+    match read {
+        Temperature::InternalDie(degrees) => [degrees.0 as u32, 0, 0, 0, 0],
+        Temperature::ExternalThermistor(degrees) => [degrees.0 as u32, 1, 0, 0, 0],
+    }
+}
+
+fn source(thermistor: bool) -> TemperatureSource {
+    if thermistor { TemperatureSource::ExternalThermistor } else { TemperatureSource::InternalDie }
+}
+
+fn mode(code: u8) -> CoulombCounterMode {
+    match code {
+        0 => CoulombCounterMode::Disabled,
+        1 => CoulombCounterMode::OneShot,
+        _ => CoulombCounterMode::Continuous,
+    }
+}
+
+on_record! {
+    write_raw(reg: u8, data: &[u8]): |device, bus| device.write_raw(bus, reg, data), done;
+    voltage(): |device, bus| device.voltage(bus), |found| one(found.0);
+    temperature(): |device, bus| device.temperature(bus), degrees;
+    enable_balancing(cells: u8): |device, bus| device.enable_balancing(bus, cells), done;
+    balancing_state(): |device, bus| device.balancing_state(bus), |set| one(set as u32);
+    sys_stat(): |device, bus| device.sys_stat(bus), |stat| one(stat.kept() as u32);
+    sys_stat_reset(flags: u8): |device, bus| device.sys_stat_reset(bus, SysStat::from_bits(flags).ok_or(Found::refused(18))?), done;
+    discharge(enable: bool): |device, bus| device.discharge(bus, enable), done;
+    charge(enable: bool): |device, bus| device.charge(bus, enable), done;
+    is_charge_enabled(): |device, bus| device.is_charge_enabled(bus), |on| one(on as u32);
+    ship_enter(): |device, bus| device.ship_enter(bus), done;
+    enable_adc(enable: bool): |device, bus| device.enable_adc(bus, enable), done;
+    set_temperature_source(thermistor: bool): |device, bus| device.set_temperature_source(bus, source(thermistor)), done;
+    temperature_source(): |device, bus| device.temperature_source(bus), |source| one((source == TemperatureSource::ExternalThermistor) as u32);
+    coulomb_counter_mode(code: u8): |device, bus| device.coulomb_counter_mode(bus, mode(code)), done;
+}

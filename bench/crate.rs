@@ -1,6 +1,6 @@
 //! The Rust crate behind the functions that the harness calls, with the signatures of the port's: bq769x0.h and harness.c have them.
 #![no_std]
-#![allow(incomplete_features)]
+#![allow(incomplete_features, dead_code, unused_macros)]
 #![feature(generic_const_exprs)]
 mod bus;
 
@@ -92,6 +92,7 @@ macro_rules! answer {
     }};
 }
 
+#[cfg(not(commands))]
 #[no_mangle]
 pub unsafe extern "C" fn bq769x0_init(
     job: *const u8, job_len: usize, tape: *const u8, tape_len: usize, log: *mut u8, log_len: usize, out: &mut [u8; 36],
@@ -102,6 +103,7 @@ pub unsafe extern "C" fn bq769x0_init(
     answer!(asked.check, tape, log, tell, init(&asked))
 }
 
+#[cfg(not(commands))]
 #[no_mangle]
 pub unsafe extern "C" fn bq769x0_init_cells(
     job: *const u8, job_len: usize, tape: *const u8, tape_len: usize, log: *mut u8, log_len: usize, list: *mut u8, list_len: usize,
@@ -134,6 +136,7 @@ fn tell_ends(out: &mut [usize; 3], used: usize, logged: usize, five: &[u32; 5]) 
     *out = [used, logged, five[0] as usize];
 }
 
+#[cfg(not(commands))]
 #[no_mangle]
 pub unsafe extern "C" fn bench_cells(
     x: u8, cells: u8, address: u8, check: bool, gain: u16, b51: u8, shunt: u32,
@@ -145,6 +148,7 @@ pub unsafe extern "C" fn bench_cells(
     answer!(check, tape, log, |used, logged, five: &[u32; 5]| tell_ends(out, used, logged, five), cells(&record, list))
 }
 
+#[cfg(not(commands))]
 #[no_mangle]
 pub unsafe extern "C" fn bench_current(
     x: u8, cells: u8, address: u8, check: bool, gain: u16, b51: u8, shunt: u32,
@@ -155,6 +159,7 @@ pub unsafe extern "C" fn bench_current(
     answer!(check, tape, log, |used, logged, five: &[u32; 5]| tell_ends(out, used, logged, five), current(&record))
 }
 
+#[cfg(not(commands))]
 #[no_mangle]
 pub unsafe extern "C" fn bench_read_raw(
     x: u8, address: u8, check: bool, reg: u8, data: *mut u8, data_len: usize,
@@ -164,4 +169,59 @@ pub unsafe extern "C" fn bench_read_raw(
     let data = from_raw_parts_mut(data, data_len);
     let record = Record { x, cells: x, address, gain: 0, offset: 0, shunt: 0 };
     answer!(check, tape, log, |used, logged, five: &[u32; 5]| tell_ends(out, used, logged, five), read_raw(&record, reg, data))
+}
+
+/// The calls on a record that lend nothing but tape and log, each by `tell`.
+macro_rules! on_record {
+    ($($function:ident: $call:ident($($argument:ident: $type:ty),*), $tell:ident;)*) => {$(
+        #[no_mangle]
+        pub unsafe extern "C" fn $function(
+            x: u8, cells: u8, address: u8, check: bool, gain: u16, b51: u8, shunt: u32, $($argument: $type,)*
+            tape: *const u8, tape_len: usize, log: *mut u8, log_len: usize, out: &mut [usize; 3],
+        ) -> u8 {
+            let (tape, log) = (from_raw_parts(tape, tape_len), from_raw_parts_mut(log, log_len));
+            let record = Record { x, cells, address, gain, offset: b51 as i8, shunt };
+            answer!(check, tape, log, |used, logged, five: &[u32; 5]| $tell(out, used, logged, five), $call(&record $(, $argument)*))
+        }
+    )*};
+}
+
+#[cfg(not(commands))]
+#[no_mangle]
+pub unsafe extern "C" fn bench_write_raw(
+    x: u8, address: u8, check: bool, reg: u8, data: *const u8, data_len: usize,
+    tape: *const u8, tape_len: usize, log: *mut u8, log_len: usize, out: &mut [usize; 3],
+) -> u8 {
+    let (tape, log) = (from_raw_parts(tape, tape_len), from_raw_parts_mut(log, log_len));
+    let data = from_raw_parts(data, data_len);
+    let record = Record { x, cells: x, address, gain: 0, offset: 0, shunt: 0 };
+    answer!(check, tape, log, |used, logged, five: &[u32; 5]| tell_ends(out, used, logged, five), write_raw(&record, reg, data))
+}
+
+/// The third number with 2^32 more where a thermistor has the degrees.
+#[cfg(not(commands))]
+fn tell_degrees(out: &mut [usize; 3], used: usize, logged: usize, five: &[u32; 5]) {
+    *out = [used, logged, five[0] as usize + ((five[1] as usize) << 32)];
+}
+
+#[cfg(not(commands))]
+on_record! {
+    bench_voltage: voltage(), tell_ends;
+    bench_temperature: temperature(), tell_degrees;
+}
+
+#[cfg(commands)]
+on_record! {
+    bench_enable_balancing: enable_balancing(cells_on: u8), tell_ends;
+    bench_balancing_state: balancing_state(), tell_ends;
+    bench_sys_stat: sys_stat(), tell_ends;
+    bench_sys_stat_reset: sys_stat_reset(flags: u8), tell_ends;
+    bench_discharge: discharge(enable: bool), tell_ends;
+    bench_charge: charge(enable: bool), tell_ends;
+    bench_is_charge_enabled: is_charge_enabled(), tell_ends;
+    bench_ship_enter: ship_enter(), tell_ends;
+    bench_enable_adc: enable_adc(enable: bool), tell_ends;
+    bench_set_temperature_source: set_temperature_source(thermistor: bool), tell_ends;
+    bench_temperature_source: temperature_source(), tell_ends;
+    bench_coulomb_counter_mode: coulomb_counter_mode(code: u8), tell_ends;
 }

@@ -1,6 +1,7 @@
 /*
  * Makes one call, by the name of its case, and prints every byte that it leaves. The same text is linked with the port's libraries and
- * with the Rust's; what the two print must be the same before anything is counted.
+ * with the Rust's; what the two print must be the same before anything is counted. Which calls it has: FIVE (init, both cell readings by
+ * the crate's list, current, read_raw), REST (the other calls of crates/bench), COMMANDS, WIRED.
  */
 #include "bq769x0.h"
 #include "calls.h"
@@ -8,10 +9,8 @@
 #include <stdlib.h>
 #include <string.h>
 
-enum { ADDRESS = 8, CELLS = 15, GAIN = 380, B51 = 0xEC, SHUNT = 1000, FILL = 0xC3 };
+enum { ADDRESS = 8, CELLS = 15, GAIN = 380, B51 = 0xEC, SHUNT = 1000, FILL = 0xC3, NONE = 256 };
 
-static uint8_t job[34] = {0x20, 0, 4, 5, 5, ADDRESS, 0, 0x21, 0, 24, 0, 0, 3, 0xE8, 0, 0, 0, 50, 0, 0, 0, 20,
-                          0, 0, 0x0A, 0xF0, 0, 0, 0x10, 0x68, 2, 5, 1, 1};
 static uint8_t tape[256], log_[128], list[4 * CELLS], data[2 * CELLS], out[BQ769X0_OUT];
 static uint8_t fitted[CELLS];
 static uint32_t numbers[CELLS];
@@ -36,16 +35,38 @@ static void done(int check, const uint8_t *bytes, size_t n) {
     }
 }
 
-/* The transfers of an init: in the plain build every write is read back. */
+/* A write of these bytes: in the plain build it is read back. */
+static void write_tape(int check, const uint8_t *bytes, size_t n) {
+    done(0, bytes, 0);
+    if (!check) done(0, bytes, n);
+}
+
+static void show(const char *name, const void *bytes, size_t n) {
+    const uint8_t *b = bytes;
+    printf("%s", name);
+    for (size_t i = 0; i < n; i++) printf(" %02X", b[i]);
+    printf("\n");
+}
+
+#define RECORD (uint8_t)inputs, (uint8_t)cells, ADDRESS, check, GAIN, B51, SHUNT
+#define BUS tape, tape_len, log_, sizeof log_, ends
+
+/* What the scope's job gives 06 and on. */
+#if defined FIVE || defined REST
+static const uint8_t six[6] = {0x13, 0x55, 0x50, 0xCF, 0xDF, 0x19};
+#endif
+
+#ifdef FIVE
+static uint8_t job[34] = {0x20, 0, 4, 5, 5, ADDRESS, 0, 0x21, 0, 24, 0, 0, 3, 0xE8, 0, 0, 0, 50, 0, 0, 0, 20,
+                          0, 0, 0x0A, 0xF0, 0, 0, 0x10, 0x68, 2, 5, 1, 1};
+
 static void init_tape(int check) {
-    static const uint8_t zero[2] = {0, 0}, six[6] = {0x13, 0x55, 0x50, 0xCF, 0xDF, 0x19}, on[1] = {0x40};
+    static const uint8_t zero[2] = {0, 0}, on[1] = {0x40};
     done(check, zero, 2);
     done(check, zero, 1);
-    done(0, zero, 0);
-    if (!check) done(0, six, 6);
+    write_tape(check, six, sizeof six);
     done(check, zero, 1);
-    done(0, zero, 0);
-    if (!check) done(0, on, 1);
+    write_tape(check, on, 1);
 }
 
 /* Readings of cells from about 3 V up. */
@@ -58,14 +79,7 @@ static void cells_tape(int check) {
     done(check, readings, (size_t)(2 * inputs));
 }
 
-static void show(const char *name, const void *bytes, size_t n) {
-    const uint8_t *b = bytes;
-    printf("%s", name);
-    for (size_t i = 0; i < n; i++) printf(" %02X", b[i]);
-    printf("\n");
-}
-
-static int call(const char *name, int check) {
+static int five(const char *name, int check) {
     static const uint8_t discharging[2] = {0xF6, 0x3C};
     if (strcmp(name, "init") == 0) {
         job[6] = (uint8_t)check;
@@ -82,25 +96,128 @@ static int call(const char *name, int check) {
     }
     if (strcmp(name, "cells") == 0) {
         cells_tape(check);
-        return bench_cells((uint8_t)inputs, (uint8_t)cells, ADDRESS, check, GAIN, B51, SHUNT, numbers, (size_t)cells, tape, tape_len, log_,
-                           sizeof log_, ends);
+        return bench_cells(RECORD, numbers, (size_t)cells, BUS);
     }
-#ifdef WIRED
-    if (strcmp(name, "wired") == 0) {
-        cells_tape(check);
-        return bench_wired((uint8_t)inputs, (uint8_t)cells, ADDRESS, check, GAIN, B51, SHUNT, fitted, (size_t)cells, numbers, (size_t)cells, tape,
-                           tape_len, log_, sizeof log_, ends);
-    }
-#endif
     if (strcmp(name, "current") == 0) {
         done(check, discharging, 2);
-        return bench_current((uint8_t)inputs, (uint8_t)cells, ADDRESS, check, GAIN, B51, SHUNT, tape, tape_len, log_, sizeof log_, ends);
+        return bench_current(RECORD, BUS);
     }
     if (strcmp(name, "read_raw") == 0) {
         cells_tape(check);
-        return bench_read_raw((uint8_t)inputs, ADDRESS, check, 0x0C, data, (size_t)(2 * inputs), tape, tape_len, log_, sizeof log_, ends);
+        return bench_read_raw((uint8_t)inputs, ADDRESS, check, 0x0C, data, (size_t)(2 * inputs), BUS);
     }
-    return 256;
+    return NONE;
+}
+#endif
+
+#ifdef REST
+static int rest(const char *name, int check) {
+    static const uint8_t pack[2] = {0x9C, 0x40}, sensor[2] = {0x0C, 0x45}, control[1] = {0x18};
+    if (strcmp(name, "write_raw") == 0) {
+        write_tape(check, six, sizeof six);
+        return bench_write_raw((uint8_t)inputs, ADDRESS, check, 0x06, six, sizeof six, BUS);
+    }
+    if (strcmp(name, "voltage") == 0) {
+        done(check, pack, 2);
+        return bench_voltage(RECORD, BUS);
+    }
+    if (strcmp(name, "temperature") == 0) {
+        done(check, sensor, 2);
+        done(check, control, 1);
+        return bench_temperature(RECORD, BUS);
+    }
+    return NONE;
+}
+#endif
+
+#ifdef COMMANDS
+/* A register's byte read, and another written in its place. */
+static void change_tape(int check, uint8_t from, uint8_t to) {
+    done(check, &from, 1);
+    write_tape(check, &to, 1);
+}
+
+static int command(const char *name, int check) {
+    static const uint8_t set[1] = {0x15}, status[1] = {0x8C}, flags[1] = {0x0C}, on[1] = {0x43}, control[1] = {0x18};
+    if (strcmp(name, "enable_balancing") == 0) {
+        write_tape(check, set, 1);
+        return bench_enable_balancing(RECORD, set[0], BUS);
+    }
+    if (strcmp(name, "balancing_state") == 0) {
+        done(check, set, 1);
+        return bench_balancing_state(RECORD, BUS);
+    }
+    if (strcmp(name, "sys_stat") == 0) {
+        done(check, status, 1);
+        return bench_sys_stat(RECORD, BUS);
+    }
+    if (strcmp(name, "sys_stat_reset") == 0) { /* no sound chip reads back so: the flags would be cleared, and the plain build answer 5 */
+        write_tape(check, flags, 1);
+        return bench_sys_stat_reset(RECORD, flags[0], BUS);
+    }
+    if (strcmp(name, "discharge") == 0) {
+        change_tape(check, 0x40, 0x42);
+        return bench_discharge(RECORD, true, BUS);
+    }
+    if (strcmp(name, "charge") == 0) {
+        change_tape(check, 0x42, 0x43);
+        return bench_charge(RECORD, true, BUS);
+    }
+    if (strcmp(name, "is_charge_enabled") == 0) {
+        done(check, on, 1);
+        return bench_is_charge_enabled(RECORD, BUS);
+    }
+    if (strcmp(name, "ship_enter") == 0) {
+        for (uint8_t byte = 0; byte < 3; byte++) write_tape(check, &byte, 1);
+        return bench_ship_enter(RECORD, BUS);
+    }
+    if (strcmp(name, "enable_adc") == 0) {
+        change_tape(check, 0x08, 0x18);
+        return bench_enable_adc(RECORD, true, BUS);
+    }
+    if (strcmp(name, "set_temperature_source") == 0) {
+        change_tape(check, 0x10, 0x18);
+        return bench_set_temperature_source(RECORD, true, BUS);
+    }
+    if (strcmp(name, "temperature_source") == 0) {
+        done(check, control, 1);
+        return bench_temperature_source(RECORD, BUS);
+    }
+    if (strcmp(name, "coulomb_counter_mode") == 0) {
+        change_tape(check, 0x43, 0x23);
+        return bench_coulomb_counter_mode(RECORD, 1, BUS);
+    }
+    return NONE;
+}
+#endif
+
+/* The cells by the wiring, and the cell on an input: the Rust has neither. */
+#ifdef WIRED
+static int wired(const char *name, int check) {
+    if (strcmp(name, "wired") == 0) {
+        cells_tape(check);
+        return bench_wired(RECORD, fitted, (size_t)cells, numbers, (size_t)cells, BUS);
+    }
+    if (strcmp(name, "cell_on") == 0) return bq769x0_cell_on((uint8_t)inputs, (uint8_t)cells, (uint8_t)inputs, data);
+    return NONE;
+}
+#endif
+
+static int call(const char *name, int check) {
+    int number = NONE;
+#ifdef FIVE
+    if (number == NONE) number = five(name, check);
+#endif
+#ifdef REST
+    if (number == NONE) number = rest(name, check);
+#endif
+#ifdef COMMANDS
+    if (number == NONE) number = command(name, check);
+#endif
+#ifdef WIRED
+    if (number == NONE) number = wired(name, check);
+#endif
+    return number;
 }
 
 /* harness CALL plain|check 5|10|15 [CELLS]: a pack of as many cells as inputs where no count is given; an init alone is the scope's, of a BQ76920 */
@@ -114,7 +231,7 @@ int main(int argc, char **argv) {
     memset(data, FILL, sizeof data);
     memset(out, FILL, sizeof out);
     int number = call(argv[1], strcmp(argv[2], "check") == 0);
-    if (number > 255) return 2;
+    if (number == NONE) return 2;
     printf("number %d\n", number);
     show("log", log_, sizeof log_);
     show("list", list, sizeof list);
