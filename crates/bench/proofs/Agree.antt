@@ -10,8 +10,8 @@ pub given-agree : (x : Given) (n n′ : ℕ) (out out′ log log′ lent lent′
     → (n ≡ n′) × (out ≡ out′) × (log ≡ log′) × (lent ≡ lent′)
 given-agree x n n′ out out′ log log′ lent lent′ e e′ =
     let same = e ∙ sym e′ in (
-      ap (λ (g : Given). g .number) same,
-      ap (λ (g : Given). g .out) same,
+      ap (λ (g : Given). g .told .number) same,
+      ap (λ (g : Given). g .told .out) same,
       ap (λ (g : Given). g .log) same,
       ap (λ (g : Given). g .lent) same,
     )

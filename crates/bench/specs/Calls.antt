@@ -6,7 +6,7 @@ use mathlib.Core.Bool.{Bool, not}
 use mathlib.Core.List.{List, [], _∷_}
 use lib.Dec.{eqb}
 use Rattle.numbers.specs.Numbers.{asU32, asI8}
-use Rattle.refusals.specs.Refusal.{Refusal, Answer, value, refused}
+use Rattle.refusals.specs.Refusal.{Answer, value, refused}
 use Rattle.adc.specs.declared.transfer.AdcTransferFunction.{AdcTransferFunction}
 use Rattle.bus.specs.Transfers.{Bus}
 use Rattle.bus.specs.Programs.{Ran}
@@ -18,7 +18,6 @@ use Rattle.bq769x0.specs.declared.BQ769x0.{BQ769x0}
 use Rattle.procedure.specs.Cells.{Filled}
 use Rattle.measuring.specs.declared.degrees.Temperature.{Temperature}
 use Rattle.measuring.specs.declared.degrees.Temperature.the-variants as T
-use Rattle.bench.specs.declared.told.Told.{Told}
 
 abbrev pub linkBy : ℕ → ℕ → Bool → Link
 linkBy x address check = record { address = address; check = check; x = x }
@@ -29,14 +28,7 @@ recordBy x n address check gain b51 shunt =
     let adc : AdcTransferFunction = record { gain = gain; offset = asI8 b51 } in
     ofParts (linkBy x address check) n adc (record { 0 = shunt }) (not (eqb shunt 0))
 
--- ---- an answer in numbers: 0 and its value as a number, or the refusal's number and 0
-abbrev pub toldNo : Refusal → Told
-toldNo r = record { number = r .number; value = 0 }
-
-abbrev pub told : {A : Type 0} → (A → ℕ) → Answer A → Told
-told inNumber (value a) = record { number = 0; value = inNumber a }
-told inNumber (refused r) = toldNo r
-
+-- ---- an answer's value as a number
 -- a call that has nothing to hand back
 abbrev pub nothing : Done → ℕ
 nothing done = 0
@@ -49,28 +41,40 @@ abbrev pub sensed : Temperature → ℕ
 sensed (T.InternalDie t) = asU32 (t .0)
 sensed (T.ExternalThermistor t) = 4_294_967_296 + asU32 (t .0)
 
+-- ---- what C is told of an answer: its number, 0 where accepted, and in out the positions and its value, or 0
 abbrev pub outOf : Cursor → ℕ → List ℕ
 outOf at n = at .tape ∷ at .log ∷ n ∷ []
 
-pub record Given : Type 0 where
+pub record Told : Type 0 where
   pub number : ℕ
   pub out : List ℕ
+
+abbrev pub toldBy : ℕ → List ℕ → Told
+toldBy number out = record { number = number; out = out }
+
+abbrev pub told : {A : Type 0} → (A → ℕ) → Cursor → Answer A → Told
+told inNumber at (value a) = toldBy 0 (outOf at (inNumber a))
+told inNumber at (refused r) = toldBy (r .number) (outOf at 0)
+
+-- ---- and what it is given with that: the log, and what it lent
+pub record Given : Type 0 where
+  pub told : Told
   pub log : List ℕ
   pub lent : List ℕ
 
 abbrev pub given : ℕ → List ℕ → List ℕ → List ℕ → Given
-given number out log lent = record { number = number; out = out; log = log; lent = lent }
+given number out log lent = record { told = toldBy number out; log = log; lent = lent }
 
-abbrev pub givenOf : Told → Bus → List ℕ → Given
-givenOf t b lent = given (t .number) (outOf (b .at) (t .value)) (b .log) lent
+abbrev pub givenOf : {A : Type 0} → (A → ℕ) → Answer A → Bus → List ℕ → Given
+givenOf inNumber answer b lent = record { told = told inNumber (b .at) answer; log = b .log; lent = lent }
 
 -- an answer that is no more than its value, where nothing was lent but tape and log
 abbrev pub asTold : {A : Type 0} → (A → ℕ) → Ran (Answer A) → Given
-asTold inNumber r = givenOf (told inNumber (r .answer)) (r .bus) []
+asTold inNumber r = givenOf inNumber (r .answer) (r .bus) []
 
 -- with the bytes that a read filled, or the list
 abbrev pub asRead : Ran Read → Given
-asRead r = givenOf (told nothing (r .answer .answer)) (r .bus) (r .answer .bytes)
+asRead r = givenOf nothing (r .answer .answer) (r .bus) (r .answer .bytes)
 
 abbrev pub asCells : Ran Filled → Given
-asCells r = givenOf (told nothing (r .answer .answer)) (r .bus) (r .answer .list)
+asCells r = givenOf nothing (r .answer .answer) (r .bus) (r .answer .list)

@@ -65,7 +65,7 @@ pub extern "C" fn bench_read_raw(
     let read = raw::read_raw(link, reg, data, tape, log, Cursor { tape: 0, log: 0 });
     let answer = read.answer;
     let at = read.at;
-    told::put_out(out, at, told::done(answer))
+    told::done(answer, at, out)
 }
 
 #[no_mangle]
@@ -86,7 +86,7 @@ pub extern "C" fn bench_write_raw(
     let made = raw::write_raw(link, reg, data, tape, log, Cursor { tape: 0, log: 0 });
     let answer = made.answer;
     let at = made.at;
-    told::put_out(out, at, told::done(answer))
+    told::done(answer, at, out)
 }
 
 #[no_mangle]
@@ -111,7 +111,7 @@ pub extern "C" fn bench_cells(
     let read = crate_list::cell_voltages(device, list, tape, log, Cursor { tape: 0, log: 0 });
     let answer = read.answer;
     let at = read.at;
-    told::put_out(out, at, told::done(answer))
+    told::done(answer, at, out)
 }
 
 #[no_mangle]
@@ -134,7 +134,7 @@ pub extern "C" fn bench_current(
     let read = pack::current(device, tape, log, Cursor { tape: 0, log: 0 });
     let answer = read.answer;
     let at = read.at;
-    told::put_out(out, at, told::flow(answer))
+    told::flow(answer, at, out)
 }
 
 #[no_mangle]
@@ -157,7 +157,7 @@ pub extern "C" fn bench_voltage(
     let read = pack::voltage(device, tape, log, Cursor { tape: 0, log: 0 });
     let answer = read.answer;
     let at = read.at;
-    told::put_out(out, at, told::volts(answer))
+    told::volts(answer, at, out)
 }
 
 #[no_mangle]
@@ -181,5 +181,5 @@ pub extern "C" fn bench_temperature(
     let read = temperature::temperature(device, tape, log, Cursor { tape: 0, log: 0 });
     let answer = read.answer;
     let at = read.at;
-    told::put_out(out, at, told::sensed(answer))
+    told::sensed(answer, at, out)
 }

@@ -1,79 +1,83 @@
-// What C is told of an answer: the number, 0 where accepted, and the value as a number, 0 where refused.
+// What C is told of an answer: the number, 0 where accepted, and in out the positions and the answer's value as a number, 0 where refused.
 ghost use mathlib.Core.Path.{_≡_};
-ghost use Rattle.refusals.specs.Refusal.{asRefusal};
 ghost use Rattle.adc.specs.Conversion.{asCurrent};
 ghost use Rattle.numbers.specs.Numbers.{asU32};
 ghost use Rattle.bus.specs.Raw.{asRaw};
 ghost use Rattle.measuring.specs.Pack.{asVoltage};
 ghost use Rattle.measuring.specs.Temperature.{asTemperature};
-ghost use Rattle.bench.specs.Calls.{told, toldNo, nothing, itself, sensed, outOf};
+ghost use Rattle.bench.specs.Calls.{outOf, toldBy, told, nothing, itself, sensed};
 use adc::counter::CurrentAnswer;
 use bus::Cursor;
 use bus::link::RawAnswer;
 use measuring::degrees::Temperature;
 use measuring::pack::VoltageAnswer;
 use measuring::temperature::TemperatureAnswer;
-use refusals::Error;
+use units::MilliAmperes;
 
-pub struct Told {
-    pub number: u8,
-    pub value: usize,
+pub fn put(out: &mut [usize; 3], at: Cursor, value: usize)
+    ensures { λ _. ⌜ now (out .exit) ≡ outOf at value ⌝ }
+{
+    *out = [at.tape, at.log, value];
 }
 
-pub fn refused(e: Error) -> Told
-    ensures { λ r. ⌜ r ≡ toldNo (asRefusal e) ⌝ }
+pub fn done(answer: RawAnswer, at: Cursor, out: &mut [usize; 3]) -> u8
+    ensures { λ r. ⌜ toldBy r (now (out .exit)) ≡ told nothing at (asRaw answer) ⌝ }
 {
-    Told {
-        number: e.number(),
-        value: 0,
+    put(out, at, 0);
+    match answer {
+        RawAnswer::Done => 0,
+        RawAnswer::Refused(e) => e.number(),
     }
 }
 
-pub fn done(answer: RawAnswer) -> Told
-    ensures { λ r. ⌜ r ≡ told nothing (asRaw answer) ⌝ }
+pub fn flow(answer: CurrentAnswer, at: Cursor, out: &mut [usize; 3]) -> u8
+    ensures { λ r. ⌜ toldBy r (now (out .exit)) ≡ told asU32 at (asCurrent answer) ⌝ }
 {
     match answer {
-        RawAnswer::Done => Told {
-            number: 0,
-            value: 0,
-        },
-        RawAnswer::Refused(e) => refused(e),
+        CurrentAnswer::Flows(current) => {
+            put(out, at, milliamperes(current));
+            0
+        }
+        CurrentAnswer::Refused(e) => {
+            put(out, at, 0);
+            e.number()
+        }
     }
 }
 
-pub fn flow(answer: CurrentAnswer) -> Told
-    ensures { λ r. ⌜ r ≡ told asU32 (asCurrent answer) ⌝ }
+fn milliamperes(current: MilliAmperes) -> usize
+    ensures { λ r. ⌜ r ≡ asU32 (current .0) ⌝ }
+{
+    numbers::as_u32(current.0) as usize
+}
+
+pub fn volts(answer: VoltageAnswer, at: Cursor, out: &mut [usize; 3]) -> u8
+    ensures { λ r. ⌜ toldBy r (now (out .exit)) ≡ told itself at (asVoltage answer) ⌝ }
 {
     match answer {
-        CurrentAnswer::Flows(current) => Told {
-            number: 0,
-            value: numbers::as_u32(current.0) as usize,
-        },
-        CurrentAnswer::Refused(e) => refused(e),
+        VoltageAnswer::Volts(voltage) => {
+            put(out, at, voltage.0 as usize);
+            0
+        }
+        VoltageAnswer::Refused(e) => {
+            put(out, at, 0);
+            e.number()
+        }
     }
 }
 
-pub fn volts(answer: VoltageAnswer) -> Told
-    ensures { λ r. ⌜ r ≡ told itself (asVoltage answer) ⌝ }
+pub fn sensed(answer: TemperatureAnswer, at: Cursor, out: &mut [usize; 3]) -> u8
+    ensures { λ r. ⌜ toldBy r (now (out .exit)) ≡ told sensed at (asTemperature answer) ⌝ }
 {
     match answer {
-        VoltageAnswer::Volts(voltage) => Told {
-            number: 0,
-            value: voltage.0 as usize,
-        },
-        VoltageAnswer::Refused(e) => refused(e),
-    }
-}
-
-pub fn sensed(answer: TemperatureAnswer) -> Told
-    ensures { λ r. ⌜ r ≡ told sensed (asTemperature answer) ⌝ }
-{
-    match answer {
-        TemperatureAnswer::Degrees(read) => Told {
-            number: 0,
-            value: degrees(read),
-        },
-        TemperatureAnswer::Refused(e) => refused(e),
+        TemperatureAnswer::Degrees(read) => {
+            put(out, at, degrees(read));
+            0
+        }
+        TemperatureAnswer::Refused(e) => {
+            put(out, at, 0);
+            e.number()
+        }
     }
 }
 
@@ -84,12 +88,4 @@ fn degrees(read: Temperature) -> usize
         Temperature::InternalDie(t) => numbers::as_u32(t.0) as usize,
         Temperature::ExternalThermistor(t) => 4_294_967_296 + numbers::as_u32(t.0) as usize,
     }
-}
-
-// Positions and value into out; the number back.
-pub fn put_out(out: &mut [usize; 3], at: Cursor, told: Told) -> u8
-    ensures { λ r. ⌜ (r ≡ told .number) × (now (out .exit) ≡ outOf at (told .value)) ⌝ }
-{
-    *out = [at.tape, at.log, told.value];
-    told.number
 }

@@ -67,7 +67,7 @@ pub extern "C" fn bench_enable_balancing(
     let made = balancing::enable_balancing(device, cells, tape, log, Cursor { tape: 0, log: 0 });
     let answer = made.answer;
     let at = made.at;
-    told::put_out(out, at, told::done(answer))
+    told::done(answer, at, out)
 }
 
 #[no_mangle]
@@ -91,7 +91,7 @@ pub extern "C" fn bench_balancing_state(
     let read = balancing::balancing_state(device, tape, log, Cursor { tape: 0, log: 0 });
     let answer = read.answer;
     let at = read.at;
-    told::put_out(out, at, answers::byte(answer))
+    answers::byte(answer, at, out)
 }
 
 #[no_mangle]
@@ -115,7 +115,7 @@ pub extern "C" fn bench_sys_stat(
     let read = status::sys_stat(device, tape, log, Cursor { tape: 0, log: 0 });
     let answer = read.answer;
     let at = read.at;
-    told::put_out(out, at, answers::stat(answer))
+    answers::stat(answer, at, out)
 }
 
 #[no_mangle]
@@ -141,7 +141,7 @@ pub extern "C" fn bench_sys_stat_reset(
     let made = status::sys_stat_reset(device, flags, tape, log, Cursor { tape: 0, log: 0 });
     let answer = made.answer;
     let at = made.at;
-    told::put_out(out, at, told::done(answer))
+    told::done(answer, at, out)
 }
 
 #[no_mangle]
@@ -166,7 +166,7 @@ pub extern "C" fn bench_discharge(
     let made = switches::discharge(device, enable, tape, log, Cursor { tape: 0, log: 0 });
     let answer = made.answer;
     let at = made.at;
-    told::put_out(out, at, told::done(answer))
+    told::done(answer, at, out)
 }
 
 #[no_mangle]
@@ -191,7 +191,7 @@ pub extern "C" fn bench_charge(
     let made = switches::charge(device, enable, tape, log, Cursor { tape: 0, log: 0 });
     let answer = made.answer;
     let at = made.at;
-    told::put_out(out, at, told::done(answer))
+    told::done(answer, at, out)
 }
 
 #[no_mangle]
@@ -215,7 +215,7 @@ pub extern "C" fn bench_is_charge_enabled(
     let read = switches::is_charge_enabled(device, tape, log, Cursor { tape: 0, log: 0 });
     let answer = read.answer;
     let at = read.at;
-    told::put_out(out, at, answers::flag(answer))
+    answers::flag(answer, at, out)
 }
 
 #[no_mangle]
@@ -239,7 +239,7 @@ pub extern "C" fn bench_ship_enter(
     let made = ship::ship_enter(device, tape, log, Cursor { tape: 0, log: 0 });
     let answer = made.answer;
     let at = made.at;
-    told::put_out(out, at, told::done(answer))
+    told::done(answer, at, out)
 }
 
 #[no_mangle]
@@ -264,7 +264,7 @@ pub extern "C" fn bench_enable_adc(
     let made = control::enable_adc(device, enable, tape, log, Cursor { tape: 0, log: 0 });
     let answer = made.answer;
     let at = made.at;
-    told::put_out(out, at, told::done(answer))
+    told::done(answer, at, out)
 }
 
 #[no_mangle]
@@ -296,7 +296,7 @@ pub extern "C" fn bench_set_temperature_source(
     );
     let answer = made.answer;
     let at = made.at;
-    told::put_out(out, at, told::done(answer))
+    told::done(answer, at, out)
 }
 
 #[no_mangle]
@@ -320,7 +320,7 @@ pub extern "C" fn bench_temperature_source(
     let read = control::temperature_source(device, tape, log, Cursor { tape: 0, log: 0 });
     let answer = read.answer;
     let at = read.at;
-    told::put_out(out, at, answers::source(answer))
+    answers::source(answer, at, out)
 }
 
 #[no_mangle]
@@ -346,5 +346,5 @@ pub extern "C" fn bench_coulomb_counter_mode(
     let made = counter::coulomb_counter_mode(device, mode, tape, log, Cursor { tape: 0, log: 0 });
     let answer = made.answer;
     let at = made.at;
-    told::put_out(out, at, told::done(answer))
+    told::done(answer, at, out)
 }

@@ -4,7 +4,7 @@ use Prim.Native.Nat.{ℕ}
 use mathlib.Core.List.{List}
 use Rattle.bus.specs.Programs.{Ran}
 use Rattle.procedure.specs.Wired.{Shown}
-use Rattle.bench.specs.Calls.{told, nothing, Given, given, givenOf}
+use Rattle.bench.specs.Calls.{nothing, Given, given, givenOf}
 
 pub record GivenBoth : Type 0 where
   pub given : Given
@@ -15,6 +15,6 @@ shownBy number out log inputs list = record { given = given number out log list;
 
 abbrev pub asShown : Ran Shown → GivenBoth
 asShown r = record {
-  given = givenOf (told nothing (r .answer .answer)) (r .bus) (r .answer .list);
+  given = givenOf nothing (r .answer .answer) (r .bus) (r .answer .list);
   inputs = r .answer .inputs;
 }

@@ -34,5 +34,5 @@ pub extern "C" fn bench_wired(
     let read = wired::wired(device, inputs, list, tape, log, Cursor { tape: 0, log: 0 });
     let answer = read.answer;
     let at = read.at;
-    told::put_out(out, at, told::done(answer))
+    told::done(answer, at, out)
 }

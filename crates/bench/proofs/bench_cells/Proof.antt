@@ -21,13 +21,13 @@ at-record c = c .before .before .before
 abbrev at-start : tie.After-cell-voltages → tie.Start
 at-start c = at-record c .before .before .before .before
 
-abbrev at-at : tie.After-put-out → tie.After-at
-at-at c = c .before .before .before
+abbrev at-at : tie.After-done → tie.After-at
+at-at c = c .before .before
 
 abbrev at-lent : tie.After-at → tie.After-slice-known3
 at-lent c = c .before .before .before
 
-abbrev at-cells : tie.After-put-out → tie.After-cell-voltages
+abbrev at-cells : tie.After-done → tie.After-cell-voltages
 at-cells c = at-lent (at-at c) .before .before
 
 -- ---- the needs
@@ -40,9 +40,6 @@ cell-voltages-requires c κs = search needs
 done-requires : tie.Need-done-requires
 done-requires c κs = search needs
 
-put-out-requires : tie.Need-put-out-requires
-put-out-requires c κs = search needs
-
 same-length : tie.Need-same-length
 same-length c = search needs
 
@@ -51,7 +48,7 @@ same-length-2 c = search needs
 
 returns : tie.Need-returns
 returns c =
-    rw (c .put-out .ensures .0, c .put-out .ensures .1, c .before .done .ensures)
+    rw (c .done .ensures)
     (on-record asCells (reading (at-start (at-cells c))) _
     (at-record (at-cells c) .record-by .ensures) (at-cells c .cell-voltages .ensures))
 
@@ -62,7 +59,6 @@ bench-cells-spec =
     record-by-requires
     cell-voltages-requires
     done-requires
-    put-out-requires
     same-length
     same-length-2
     returns)

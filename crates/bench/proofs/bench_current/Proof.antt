@@ -11,10 +11,10 @@ use Rattle.bench.proofs.bench_current.Tie as tie
 abbrev at-record : tie.After-current → tie.After-record-by
 at-record c = c .before .before
 
-abbrev at-at : tie.After-put-out → tie.After-at
-at-at c = c .before .before .before
+abbrev at-at : tie.After-flow → tie.After-at
+at-at c = c .before .before
 
-abbrev at-call : tie.After-put-out → tie.After-current
+abbrev at-call : tie.After-flow → tie.After-current
 at-call c = at-at c .before .before .before
 
 -- ---- the needs
@@ -27,24 +27,14 @@ current-requires c κs = search needs
 flow-requires : tie.Need-flow-requires
 flow-requires c κs = search needs
 
-put-out-requires : tie.Need-put-out-requires
-put-out-requires c κs = search needs
-
 same-length : tie.Need-same-length
 same-length c = search needs
 
 returns : tie.Need-returns
 returns c =
-    rw (c .put-out .ensures .0, c .put-out .ensures .1, c .before .flow .ensures)
+    rw (c .flow .ensures)
     (on-record (asTold asU32) current _ (at-record (at-call c) .record-by .ensures) (at-call c .current .ensures))
 
 pub bench-current-spec : {M : Type 1} → statement M
 bench-current-spec =
-    tie.close
-    (tie.spec
-    record-by-requires
-    current-requires
-    flow-requires
-    put-out-requires
-    same-length
-    returns)
+    tie.close (tie.spec record-by-requires current-requires flow-requires same-length returns)

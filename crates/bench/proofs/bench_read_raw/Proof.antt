@@ -6,8 +6,8 @@ use Rattle.bench.proofs.bench_read_raw.Statement.{statement}
 use Rattle.bench.proofs.bench_read_raw.Tie as tie
 
 -- ---- the places, each from a later one
-abbrev at-at : tie.After-put-out → tie.After-at
-at-at c = c .before .before .before
+abbrev at-at : tie.After-done → tie.After-at
+at-at c = c .before .before
 
 abbrev at-lent : tie.After-at → tie.After-slice-known3
 at-lent c = c .before .before .before
@@ -22,9 +22,6 @@ read-raw-requires c κs = search needs
 done-requires : tie.Need-done-requires
 done-requires c κs = search needs
 
-put-out-requires : tie.Need-put-out-requires
-put-out-requires c κs = search needs
-
 same-length : tie.Need-same-length
 same-length c = search needs
 
@@ -33,10 +30,10 @@ same-length-2 c = search needs
 
 returns : tie.Need-returns
 returns c =
-    rw (c .put-out .ensures .0, c .put-out .ensures .1, c .before .done .ensures)
+    rw (c .done .ensures)
     (ap asRead (at-read (at-lent (at-at c)) .read-raw .ensures))
 
 pub bench-read-raw-spec : {M : Type 1} → statement M
 bench-read-raw-spec =
     tie.close
-    (tie.spec read-raw-requires done-requires put-out-requires same-length same-length-2 returns)
+    (tie.spec read-raw-requires done-requires same-length same-length-2 returns)

@@ -10,10 +10,10 @@ use Rattle.bench.proofs.bench_temperature.Tie as tie
 abbrev at-record : tie.After-temperature → tie.After-record-by
 at-record c = c .before .before
 
-abbrev at-at : tie.After-put-out → tie.After-at
-at-at c = c .before .before .before
+abbrev at-at : tie.After-sensed → tie.After-at
+at-at c = c .before .before
 
-abbrev at-call : tie.After-put-out → tie.After-temperature
+abbrev at-call : tie.After-sensed → tie.After-temperature
 at-call c = at-at c .before .before .before
 
 -- ---- the needs
@@ -26,24 +26,15 @@ temperature-requires c κs = search needs
 sensed-requires : tie.Need-sensed-requires
 sensed-requires c κs = search needs
 
-put-out-requires : tie.Need-put-out-requires
-put-out-requires c κs = search needs
-
 same-length : tie.Need-same-length
 same-length c = search needs
 
 returns : tie.Need-returns
 returns c =
-    rw (c .put-out .ensures .0, c .put-out .ensures .1, c .before .sensed .ensures)
+    rw (c .sensed .ensures)
     (on-record (asTold sensed) temperature _ (at-record (at-call c) .record-by .ensures) (at-call c .temperature .ensures))
 
 pub bench-temperature-spec : {M : Type 1} → statement M
 bench-temperature-spec =
     tie.close
-    (tie.spec
-    record-by-requires
-    temperature-requires
-    sensed-requires
-    put-out-requires
-    same-length
-    returns)
+    (tie.spec record-by-requires temperature-requires sensed-requires same-length returns)

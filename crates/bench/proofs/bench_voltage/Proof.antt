@@ -10,10 +10,10 @@ use Rattle.bench.proofs.bench_voltage.Tie as tie
 abbrev at-record : tie.After-voltage → tie.After-record-by
 at-record c = c .before .before
 
-abbrev at-at : tie.After-put-out → tie.After-at
-at-at c = c .before .before .before
+abbrev at-at : tie.After-volts → tie.After-at
+at-at c = c .before .before
 
-abbrev at-call : tie.After-put-out → tie.After-voltage
+abbrev at-call : tie.After-volts → tie.After-voltage
 at-call c = at-at c .before .before .before
 
 -- ---- the needs
@@ -26,24 +26,14 @@ voltage-requires c κs = search needs
 volts-requires : tie.Need-volts-requires
 volts-requires c κs = search needs
 
-put-out-requires : tie.Need-put-out-requires
-put-out-requires c κs = search needs
-
 same-length : tie.Need-same-length
 same-length c = search needs
 
 returns : tie.Need-returns
 returns c =
-    rw (c .put-out .ensures .0, c .put-out .ensures .1, c .before .volts .ensures)
+    rw (c .volts .ensures)
     (on-record (asTold itself) voltage _ (at-record (at-call c) .record-by .ensures) (at-call c .voltage .ensures))
 
 pub bench-voltage-spec : {M : Type 1} → statement M
 bench-voltage-spec =
-    tie.close
-    (tie.spec
-    record-by-requires
-    voltage-requires
-    volts-requires
-    put-out-requires
-    same-length
-    returns)
+    tie.close (tie.spec record-by-requires voltage-requires volts-requires same-length returns)

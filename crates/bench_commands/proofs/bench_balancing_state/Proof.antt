@@ -10,10 +10,10 @@ use Rattle.bench_commands.proofs.bench_balancing_state.Tie as tie
 abbrev at-record : tie.After-balancing-state → tie.After-record-by
 at-record c = c .before .before
 
-abbrev at-at : tie.After-put-out → tie.After-at
-at-at c = c .before .before .before
+abbrev at-at : tie.After-byte → tie.After-at
+at-at c = c .before .before
 
-abbrev at-call : tie.After-put-out → tie.After-balancing-state
+abbrev at-call : tie.After-byte → tie.After-balancing-state
 at-call c = at-at c .before .before .before
 
 -- ---- the needs
@@ -26,24 +26,15 @@ balancing-state-requires c κs = search needs
 byte-requires : tie.Need-byte-requires
 byte-requires c κs = search needs
 
-put-out-requires : tie.Need-put-out-requires
-put-out-requires c κs = search needs
-
 same-length : tie.Need-same-length
 same-length c = search needs
 
 returns : tie.Need-returns
 returns c =
-    rw (c .put-out .ensures .0, c .put-out .ensures .1, c .before .byte .ensures)
+    rw (c .byte .ensures)
     (on-record (asTold itself) balancingState _ (at-record (at-call c) .record-by .ensures) (at-call c .balancing-state .ensures))
 
 pub bench-balancing-state-spec : {M : Type 1} → statement M
 bench-balancing-state-spec =
     tie.close
-    (tie.spec
-    record-by-requires
-    balancing-state-requires
-    byte-requires
-    put-out-requires
-    same-length
-    returns)
+    (tie.spec record-by-requires balancing-state-requires byte-requires same-length returns)

@@ -14,10 +14,10 @@ at-record c = c .before .before
 abbrev at-start : tie.After-charge → tie.Start
 at-start c = at-record c .before .before .before
 
-abbrev at-at : tie.After-put-out → tie.After-at
-at-at c = c .before .before .before
+abbrev at-at : tie.After-done → tie.After-at
+at-at c = c .before .before
 
-abbrev at-call : tie.After-put-out → tie.After-charge
+abbrev at-call : tie.After-done → tie.After-charge
 at-call c = at-at c .before .before .before
 
 -- ---- the needs
@@ -30,19 +30,15 @@ charge-requires c κs = search needs
 done-requires : tie.Need-done-requires
 done-requires c κs = search needs
 
-put-out-requires : tie.Need-put-out-requires
-put-out-requires c κs = search needs
-
 same-length : tie.Need-same-length
 same-length c = search needs
 
 returns : tie.Need-returns
 returns c =
-    rw (c .put-out .ensures .0, c .put-out .ensures .1, c .before .done .ensures)
+    rw (c .done .ensures)
     (on-record-by (asTold nothing) charge _ (at-start (at-call c) .args .enable) refl
     (at-record (at-call c) .record-by .ensures) (at-call c .charge .ensures))
 
 pub bench-charge-spec : {M : Type 1} → statement M
 bench-charge-spec =
-    tie.close
-    (tie.spec record-by-requires charge-requires done-requires put-out-requires same-length returns)
+    tie.close (tie.spec record-by-requires charge-requires done-requires same-length returns)

@@ -13,10 +13,10 @@ at-mode-by c = c .before .before
 abbrev at-record : tie.After-coulomb-counter-mode → tie.After-record-by
 at-record c = at-mode-by c .before
 
-abbrev at-at : tie.After-put-out → tie.After-at
-at-at c = c .before .before .before
+abbrev at-at : tie.After-done → tie.After-at
+at-at c = c .before .before
 
-abbrev at-call : tie.After-put-out → tie.After-coulomb-counter-mode
+abbrev at-call : tie.After-done → tie.After-coulomb-counter-mode
 at-call c = at-at c .before .before .before
 
 -- ---- the needs
@@ -32,15 +32,12 @@ coulomb-counter-mode-requires c κs = search needs
 done-requires : tie.Need-done-requires
 done-requires c κs = search needs
 
-put-out-requires : tie.Need-put-out-requires
-put-out-requires c κs = search needs
-
 same-length : tie.Need-same-length
 same-length c = search needs
 
 returns : tie.Need-returns
 returns c =
-    rw (c .put-out .ensures .0, c .put-out .ensures .1, c .before .done .ensures)
+    rw (c .done .ensures)
     (on-record-by (asTold nothing) coulombCounterMode _ _ (at-mode-by (at-call c) .mode-by .ensures)
     (at-record (at-call c) .record-by .ensures) (at-call c .coulomb-counter-mode .ensures))
 
@@ -52,6 +49,5 @@ bench-coulomb-counter-mode-spec =
     mode-by-requires
     coulomb-counter-mode-requires
     done-requires
-    put-out-requires
     same-length
     returns)

@@ -11,10 +11,10 @@ use Rattle.bench_commands.proofs.bench_is_charge_enabled.Tie as tie
 abbrev at-record : tie.After-is-charge-enabled → tie.After-record-by
 at-record c = c .before .before
 
-abbrev at-at : tie.After-put-out → tie.After-at
-at-at c = c .before .before .before
+abbrev at-at : tie.After-flag → tie.After-at
+at-at c = c .before .before
 
-abbrev at-call : tie.After-put-out → tie.After-is-charge-enabled
+abbrev at-call : tie.After-flag → tie.After-is-charge-enabled
 at-call c = at-at c .before .before .before
 
 -- ---- the needs
@@ -27,24 +27,15 @@ is-charge-enabled-requires c κs = search needs
 flag-requires : tie.Need-flag-requires
 flag-requires c κs = search needs
 
-put-out-requires : tie.Need-put-out-requires
-put-out-requires c κs = search needs
-
 same-length : tie.Need-same-length
 same-length c = search needs
 
 returns : tie.Need-returns
 returns c =
-    rw (c .put-out .ensures .0, c .put-out .ensures .1, c .before .flag .ensures)
+    rw (c .flag .ensures)
     (on-record (asTold bitOf) isChargeEnabled _ (at-record (at-call c) .record-by .ensures) (at-call c .is-charge-enabled .ensures))
 
 pub bench-is-charge-enabled-spec : {M : Type 1} → statement M
 bench-is-charge-enabled-spec =
     tie.close
-    (tie.spec
-    record-by-requires
-    is-charge-enabled-requires
-    flag-requires
-    put-out-requires
-    same-length
-    returns)
+    (tie.spec record-by-requires is-charge-enabled-requires flag-requires same-length returns)

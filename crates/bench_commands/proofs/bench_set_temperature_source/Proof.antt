@@ -13,10 +13,10 @@ at-source-by c = c .before .before
 abbrev at-record : tie.After-set-temperature-source → tie.After-record-by
 at-record c = at-source-by c .before
 
-abbrev at-at : tie.After-put-out → tie.After-at
-at-at c = c .before .before .before
+abbrev at-at : tie.After-done → tie.After-at
+at-at c = c .before .before
 
-abbrev at-call : tie.After-put-out → tie.After-set-temperature-source
+abbrev at-call : tie.After-done → tie.After-set-temperature-source
 at-call c = at-at c .before .before .before
 
 -- ---- the needs
@@ -32,15 +32,12 @@ set-temperature-source-requires c κs = search needs
 done-requires : tie.Need-done-requires
 done-requires c κs = search needs
 
-put-out-requires : tie.Need-put-out-requires
-put-out-requires c κs = search needs
-
 same-length : tie.Need-same-length
 same-length c = search needs
 
 returns : tie.Need-returns
 returns c =
-    rw (c .put-out .ensures .0, c .put-out .ensures .1, c .before .done .ensures)
+    rw (c .done .ensures)
     (on-record-by (asTold nothing) setTemperatureSource _ _ (at-source-by (at-call c) .source-by .ensures)
     (at-record (at-call c) .record-by .ensures) (at-call c .set-temperature-source .ensures))
 
@@ -52,6 +49,5 @@ bench-set-temperature-source-spec =
     source-by-requires
     set-temperature-source-requires
     done-requires
-    put-out-requires
     same-length
     returns)

@@ -10,10 +10,10 @@ use Rattle.bench_commands.proofs.bench_ship_enter.Tie as tie
 abbrev at-record : tie.After-ship-enter → tie.After-record-by
 at-record c = c .before .before
 
-abbrev at-at : tie.After-put-out → tie.After-at
-at-at c = c .before .before .before
+abbrev at-at : tie.After-done → tie.After-at
+at-at c = c .before .before
 
-abbrev at-call : tie.After-put-out → tie.After-ship-enter
+abbrev at-call : tie.After-done → tie.After-ship-enter
 at-call c = at-at c .before .before .before
 
 -- ---- the needs
@@ -26,24 +26,14 @@ ship-enter-requires c κs = search needs
 done-requires : tie.Need-done-requires
 done-requires c κs = search needs
 
-put-out-requires : tie.Need-put-out-requires
-put-out-requires c κs = search needs
-
 same-length : tie.Need-same-length
 same-length c = search needs
 
 returns : tie.Need-returns
 returns c =
-    rw (c .put-out .ensures .0, c .put-out .ensures .1, c .before .done .ensures)
+    rw (c .done .ensures)
     (on-record (asTold nothing) shipEnter _ (at-record (at-call c) .record-by .ensures) (at-call c .ship-enter .ensures))
 
 pub bench-ship-enter-spec : {M : Type 1} → statement M
 bench-ship-enter-spec =
-    tie.close
-    (tie.spec
-    record-by-requires
-    ship-enter-requires
-    done-requires
-    put-out-requires
-    same-length
-    returns)
+    tie.close (tie.spec record-by-requires ship-enter-requires done-requires same-length returns)

@@ -11,10 +11,10 @@ use Rattle.bench_commands.proofs.bench_sys_stat.Tie as tie
 abbrev at-record : tie.After-sys-stat → tie.After-record-by
 at-record c = c .before .before
 
-abbrev at-at : tie.After-put-out → tie.After-at
-at-at c = c .before .before .before
+abbrev at-at : tie.After-stat → tie.After-at
+at-at c = c .before .before
 
-abbrev at-call : tie.After-put-out → tie.After-sys-stat
+abbrev at-call : tie.After-stat → tie.After-sys-stat
 at-call c = at-at c .before .before .before
 
 -- ---- the needs
@@ -27,24 +27,14 @@ sys-stat-requires c κs = search needs
 stat-requires : tie.Need-stat-requires
 stat-requires c κs = search needs
 
-put-out-requires : tie.Need-put-out-requires
-put-out-requires c κs = search needs
-
 same-length : tie.Need-same-length
 same-length c = search needs
 
 returns : tie.Need-returns
 returns c =
-    rw (c .put-out .ensures .0, c .put-out .ensures .1, c .before .stat .ensures)
+    rw (c .stat .ensures)
     (on-record (asTold bitsOf) sysStat _ (at-record (at-call c) .record-by .ensures) (at-call c .sys-stat .ensures))
 
 pub bench-sys-stat-spec : {M : Type 1} → statement M
 bench-sys-stat-spec =
-    tie.close
-    (tie.spec
-    record-by-requires
-    sys-stat-requires
-    stat-requires
-    put-out-requires
-    same-length
-    returns)
+    tie.close (tie.spec record-by-requires sys-stat-requires stat-requires same-length returns)

@@ -15,10 +15,10 @@ at-record c = c .before .before
 abbrev at-start : tie.After-sys-stat-reset → tie.Start
 at-start c = at-record c .before .before .before
 
-abbrev at-at : tie.After-put-out → tie.After-at
-at-at c = c .before .before .before
+abbrev at-at : tie.After-done → tie.After-at
+at-at c = c .before .before
 
-abbrev at-call : tie.After-put-out → tie.After-sys-stat-reset
+abbrev at-call : tie.After-done → tie.After-sys-stat-reset
 at-call c = at-at c .before .before .before
 
 -- ---- the needs
@@ -31,25 +31,16 @@ sys-stat-reset-requires c κs = search needs
 done-requires : tie.Need-done-requires
 done-requires c κs = search needs
 
-put-out-requires : tie.Need-put-out-requires
-put-out-requires c κs = search needs
-
 same-length : tie.Need-same-length
 same-length c = search needs
 
 returns : tie.Need-returns
 returns c =
-    rw (c .put-out .ensures .0, c .put-out .ensures .1, c .before .done .ensures)
+    rw (c .done .ensures)
     (on-record-by (asTold nothing) sysStatReset _ (flagsBy (at-start (at-call c) .args .flags)) refl
     (at-record (at-call c) .record-by .ensures) (at-call c .sys-stat-reset .ensures))
 
 pub bench-sys-stat-reset-spec : {M : Type 1} → statement M
 bench-sys-stat-reset-spec =
     tie.close
-    (tie.spec
-    record-by-requires
-    sys-stat-reset-requires
-    done-requires
-    put-out-requires
-    same-length
-    returns)
+    (tie.spec record-by-requires sys-stat-reset-requires done-requires same-length returns)

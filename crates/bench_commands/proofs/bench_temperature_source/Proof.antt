@@ -11,10 +11,10 @@ use Rattle.bench_commands.proofs.bench_temperature_source.Tie as tie
 abbrev at-record : tie.After-temperature-source → tie.After-record-by
 at-record c = c .before .before
 
-abbrev at-at : tie.After-put-out → tie.After-at
-at-at c = c .before .before .before
+abbrev at-at : tie.After-source → tie.After-at
+at-at c = c .before .before
 
-abbrev at-call : tie.After-put-out → tie.After-temperature-source
+abbrev at-call : tie.After-source → tie.After-temperature-source
 at-call c = at-at c .before .before .before
 
 -- ---- the needs
@@ -27,24 +27,15 @@ temperature-source-requires c κs = search needs
 source-requires : tie.Need-source-requires
 source-requires c κs = search needs
 
-put-out-requires : tie.Need-put-out-requires
-put-out-requires c κs = search needs
-
 same-length : tie.Need-same-length
 same-length c = search needs
 
 returns : tie.Need-returns
 returns c =
-    rw (c .put-out .ensures .0, c .put-out .ensures .1, c .before .source .ensures)
+    rw (c .source .ensures)
     (on-record (asTold codeOf) temperatureSource _ (at-record (at-call c) .record-by .ensures) (at-call c .temperature-source .ensures))
 
 pub bench-temperature-source-spec : {M : Type 1} → statement M
 bench-temperature-source-spec =
     tie.close
-    (tie.spec
-    record-by-requires
-    temperature-source-requires
-    source-requires
-    put-out-requires
-    same-length
-    returns)
+    (tie.spec record-by-requires temperature-source-requires source-requires same-length returns)

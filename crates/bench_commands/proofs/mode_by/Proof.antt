@@ -1,6 +1,5 @@
 -- `bench_commands::mode_by` meets its contract. Assumes nothing.
 use borrow.Author.Tests.{eq-eqb, ne-eqb}
-use borrow.Author.Needs.{needs}
 use Rattle.bench_commands.proofs.mode_by.Statement.{statement}
 use Rattle.bench_commands.proofs.mode_by.Tie as tie
 
@@ -14,6 +13,4 @@ returns-3 : tie.Need-returns-3
 returns-3 c = simp (ne-eqb _ _ (c .before .if1 .left), ne-eqb _ _ (c .if2 .left))
 
 pub mode-by-spec : {M : Type 1} → statement M
-mode-by-spec =
-    tie.close
-    (tie.spec returns returns-2 returns-3)
+mode-by-spec = tie.close (tie.spec returns returns-2 returns-3)

@@ -24,13 +24,13 @@ at-lists c = c .before .before .before
 abbrev at-start : tie.After-wired → tie.Start
 at-start c = at-lists (at-record c) .before .before
 
-abbrev at-at : tie.After-put-out → tie.After-at
-at-at c = c .before .before .before
+abbrev at-at : tie.After-done → tie.After-at
+at-at c = c .before .before
 
 abbrev at-lent : tie.After-at → tie.After-slice-known5
 at-lent c = c .before .before .before
 
-abbrev at-wired : tie.After-put-out → tie.After-wired
+abbrev at-wired : tie.After-done → tie.After-wired
 at-wired c = at-lent (at-at c) .before .before .before .before
 
 -- ---- the needs
@@ -43,9 +43,6 @@ wired-requires c κs = search needs
 done-requires : tie.Need-done-requires
 done-requires c κs = search needs
 
-put-out-requires : tie.Need-put-out-requires
-put-out-requires c κs = search needs
-
 same-length : tie.Need-same-length
 same-length c = search needs
 
@@ -57,7 +54,7 @@ same-length-3 c = search needs
 
 returns : tie.Need-returns
 returns c =
-    rw (c .put-out .ensures .0, c .put-out .ensures .1, c .before .done .ensures)
+    rw (c .done .ensures)
     (on-record asShown (reading (at-start (at-wired c))) _
     (at-record (at-wired c) .record-by .ensures) (at-wired c .wired .ensures))
 
@@ -68,7 +65,6 @@ bench-wired-spec =
     record-by-requires
     wired-requires
     done-requires
-    put-out-requires
     same-length
     same-length-2
     same-length-3

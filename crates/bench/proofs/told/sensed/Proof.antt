@@ -9,17 +9,23 @@ enum-known-answer c = search needs
 degrees-requires : tie.Need-degrees-requires
 degrees-requires c κs = search needs
 
+put-requires : tie.Need-put-requires
+put-requires c κs = search needs
+
 enum-known-answer-2 : tie.Need-enum-known-answer-2
 enum-known-answer-2 c = search needs
 
-refused-requires : tie.Need-refused-requires
-refused-requires c κs = search needs
+put-requires-2 : tie.Need-put-requires-2
+put-requires-2 c κs = search needs
+
+number-requires : tie.Need-number-requires
+number-requires c κs = search needs
 
 returns : tie.Need-returns
-returns c = rw (c .degrees .ensures, c .before .before .answer .given .1)
+returns c = rw (c .put .ensures, c .before .degrees .ensures, c .before .before .before .before .answer .given .1)
 
 returns-2 : tie.Need-returns-2
-returns-2 c = rw (c .refused .ensures, c .before .before .answer2 .given .1)
+returns-2 c = rw (c .number .ensures, c .before .put2 .ensures, c .before .before .before .before .answer2 .given .1)
 
 pub sensed-spec : {M : Type 1} → statement M
 sensed-spec =
@@ -27,7 +33,9 @@ sensed-spec =
     (tie.spec
     enum-known-answer
     degrees-requires
+    put-requires
     enum-known-answer-2
-    refused-requires
+    put-requires-2
+    number-requires
     returns
     returns-2)

@@ -6,22 +6,36 @@ use Rattle.bench_commands.proofs.answers.flag.Tie as tie
 enum-known-answer : tie.Need-enum-known-answer
 enum-known-answer c = search needs
 
+bit-of-requires : tie.Need-bit-of-requires
+bit-of-requires c κs = search needs
+
+put-requires : tie.Need-put-requires
+put-requires c κs = search needs
+
 enum-known-answer-2 : tie.Need-enum-known-answer-2
 enum-known-answer-2 c = search needs
 
-refused-requires : tie.Need-refused-requires
-refused-requires c κs = search needs
+put-requires-2 : tie.Need-put-requires-2
+put-requires-2 c κs = search needs
+
+number-requires : tie.Need-number-requires
+number-requires c κs = search needs
 
 returns : tie.Need-returns
-returns c = rw (c .before .before .answer .given .1, c .if1 .taken)
+returns c = rw (c .put .ensures, c .before .bit-of .ensures, c .before .before .before .before .answer .given .1)
 
 returns-2 : tie.Need-returns-2
-returns-2 c = rw (c .before .before .answer .given .1, c .if1 .left)
-
-returns-3 : tie.Need-returns-3
-returns-3 c = rw (c .refused .ensures, c .before .before .answer2 .given .1)
+returns-2 c = rw (c .number .ensures, c .before .put2 .ensures, c .before .before .before .before .answer2 .given .1)
 
 pub flag-spec : {M : Type 1} → statement M
 flag-spec =
     tie.close
-    (tie.spec enum-known-answer enum-known-answer-2 refused-requires returns returns-2 returns-3)
+    (tie.spec
+    enum-known-answer
+    bit-of-requires
+    put-requires
+    enum-known-answer-2
+    put-requires-2
+    number-requires
+    returns
+    returns-2)
