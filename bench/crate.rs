@@ -1,4 +1,5 @@
-//! The Rust crate behind the functions that the harness calls, with the signatures of the port's: bq769x0.h and harness.c have them.
+//! The Rust crate behind the functions that the harness calls, with the signatures of the port's: bq769x0.h and calls.h have them. One
+//! library for each of harness.c's groups of calls, `five`, `rest` and `commands`, so that the calls of one are compiled as if alone.
 #![no_std]
 #![allow(incomplete_features, dead_code, unused_macros)]
 #![feature(generic_const_exprs)]
@@ -92,7 +93,7 @@ macro_rules! answer {
     }};
 }
 
-#[cfg(not(commands))]
+#[cfg(five)]
 #[no_mangle]
 pub unsafe extern "C" fn bq769x0_init(
     job: *const u8, job_len: usize, tape: *const u8, tape_len: usize, log: *mut u8, log_len: usize, out: &mut [u8; 36],
@@ -103,7 +104,7 @@ pub unsafe extern "C" fn bq769x0_init(
     answer!(asked.check, tape, log, tell, init(&asked))
 }
 
-#[cfg(not(commands))]
+#[cfg(five)]
 #[no_mangle]
 pub unsafe extern "C" fn bq769x0_init_cells(
     job: *const u8, job_len: usize, tape: *const u8, tape_len: usize, log: *mut u8, log_len: usize, list: *mut u8, list_len: usize,
@@ -136,7 +137,7 @@ fn tell_ends(out: &mut [usize; 3], used: usize, logged: usize, five: &[u32; 5]) 
     *out = [used, logged, five[0] as usize];
 }
 
-#[cfg(not(commands))]
+#[cfg(five)]
 #[no_mangle]
 pub unsafe extern "C" fn bench_cells(
     x: u8, cells: u8, address: u8, check: bool, gain: u16, b51: u8, shunt: u32,
@@ -148,7 +149,7 @@ pub unsafe extern "C" fn bench_cells(
     answer!(check, tape, log, |used, logged, five: &[u32; 5]| tell_ends(out, used, logged, five), cells(&record, list))
 }
 
-#[cfg(not(commands))]
+#[cfg(five)]
 #[no_mangle]
 pub unsafe extern "C" fn bench_current(
     x: u8, cells: u8, address: u8, check: bool, gain: u16, b51: u8, shunt: u32,
@@ -159,7 +160,7 @@ pub unsafe extern "C" fn bench_current(
     answer!(check, tape, log, |used, logged, five: &[u32; 5]| tell_ends(out, used, logged, five), current(&record))
 }
 
-#[cfg(not(commands))]
+#[cfg(five)]
 #[no_mangle]
 pub unsafe extern "C" fn bench_read_raw(
     x: u8, address: u8, check: bool, reg: u8, data: *mut u8, data_len: usize,
@@ -186,7 +187,7 @@ macro_rules! on_record {
     )*};
 }
 
-#[cfg(not(commands))]
+#[cfg(rest)]
 #[no_mangle]
 pub unsafe extern "C" fn bench_write_raw(
     x: u8, address: u8, check: bool, reg: u8, data: *const u8, data_len: usize,
@@ -199,12 +200,12 @@ pub unsafe extern "C" fn bench_write_raw(
 }
 
 /// The third number with 2^32 more where a thermistor has the degrees.
-#[cfg(not(commands))]
+#[cfg(rest)]
 fn tell_degrees(out: &mut [usize; 3], used: usize, logged: usize, five: &[u32; 5]) {
     *out = [used, logged, five[0] as usize + ((five[1] as usize) << 32)];
 }
 
-#[cfg(not(commands))]
+#[cfg(rest)]
 on_record! {
     bench_voltage: voltage(), tell_ends;
     bench_temperature: temperature(), tell_degrees;
