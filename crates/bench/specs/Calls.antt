@@ -6,7 +6,7 @@ use mathlib.Core.Bool.{Bool, not}
 use mathlib.Core.List.{List, [], _∷_}
 use lib.Dec.{eqb}
 use Rattle.numbers.specs.Numbers.{asU32, asI8}
-use Rattle.refusals.specs.Refusal.{Answer, value, refused}
+use Rattle.refusals.specs.Refusal.{Answer, value, refused, numberOf}
 use Rattle.adc.specs.declared.transfer.AdcTransferFunction.{AdcTransferFunction}
 use Rattle.bus.specs.Transfers.{Bus}
 use Rattle.bus.specs.Programs.{Ran}
@@ -52,9 +52,12 @@ pub record Told : Type 0 where
 abbrev pub toldBy : ℕ → List ℕ → Told
 toldBy number out = record { number = number; out = out }
 
+abbrev pub valueOf : {A : Type 0} → (A → ℕ) → Answer A → ℕ
+valueOf inNumber (value a) = inNumber a
+valueOf inNumber (refused r) = 0
+
 abbrev pub told : {A : Type 0} → (A → ℕ) → Cursor → Answer A → Told
-told inNumber at (value a) = toldBy 0 (outOf at (inNumber a))
-told inNumber at (refused r) = toldBy (r .number) (outOf at 0)
+told inNumber at answer = toldBy (numberOf answer) (outOf at (valueOf inNumber answer))
 
 -- ---- and what it is given with that: the log, and what it lent
 pub record Given : Type 0 where

@@ -5,7 +5,7 @@ ghost use Rattle.numbers.specs.Numbers.{asU32};
 ghost use Rattle.bus.specs.Raw.{asRaw};
 ghost use Rattle.measuring.specs.Pack.{asVoltage};
 ghost use Rattle.measuring.specs.Temperature.{asTemperature};
-ghost use Rattle.bench.specs.Calls.{outOf, toldBy, told, nothing, itself, sensed};
+ghost use Rattle.bench.specs.Calls.{outOf, toldBy, told, valueOf, nothing, itself, sensed};
 use adc::counter::CurrentAnswer;
 use bus::Cursor;
 use bus::link::RawAnswer;
@@ -33,15 +33,19 @@ pub fn done(answer: RawAnswer, at: Cursor, out: &mut [usize; 3]) -> u8
 pub fn flow(answer: CurrentAnswer, at: Cursor, out: &mut [usize; 3]) -> u8
     ensures { λ r. ⌜ toldBy r (now (out .exit)) ≡ told asU32 at (asCurrent answer) ⌝ }
 {
+    put(out, at, flow_of(answer));
     match answer {
-        CurrentAnswer::Flows(current) => {
-            put(out, at, milliamperes(current));
-            0
-        }
-        CurrentAnswer::Refused(e) => {
-            put(out, at, 0);
-            e.number()
-        }
+        CurrentAnswer::Flows(_) => 0,
+        CurrentAnswer::Refused(e) => e.number(),
+    }
+}
+
+fn flow_of(answer: CurrentAnswer) -> usize
+    ensures { λ r. ⌜ r ≡ valueOf asU32 (asCurrent answer) ⌝ }
+{
+    match answer {
+        CurrentAnswer::Flows(current) => milliamperes(current),
+        CurrentAnswer::Refused(_) => 0,
     }
 }
 
