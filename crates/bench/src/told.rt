@@ -58,30 +58,38 @@ fn milliamperes(current: MilliAmperes) -> usize
 pub fn volts(answer: VoltageAnswer, at: Cursor, out: &mut [usize; 3]) -> u8
     ensures { λ r. ⌜ toldBy r (now (out .exit)) ≡ told itself at (asVoltage answer) ⌝ }
 {
+    put(out, at, volts_of(answer));
     match answer {
-        VoltageAnswer::Volts(voltage) => {
-            put(out, at, voltage.0 as usize);
-            0
-        }
-        VoltageAnswer::Refused(e) => {
-            put(out, at, 0);
-            e.number()
-        }
+        VoltageAnswer::Volts(_) => 0,
+        VoltageAnswer::Refused(e) => e.number(),
+    }
+}
+
+fn volts_of(answer: VoltageAnswer) -> usize
+    ensures { λ r. ⌜ r ≡ valueOf itself (asVoltage answer) ⌝ }
+{
+    match answer {
+        VoltageAnswer::Volts(voltage) => voltage.0 as usize,
+        VoltageAnswer::Refused(_) => 0,
     }
 }
 
 pub fn sensed(answer: TemperatureAnswer, at: Cursor, out: &mut [usize; 3]) -> u8
     ensures { λ r. ⌜ toldBy r (now (out .exit)) ≡ told sensed at (asTemperature answer) ⌝ }
 {
+    put(out, at, sensed_of(answer));
     match answer {
-        TemperatureAnswer::Degrees(read) => {
-            put(out, at, degrees(read));
-            0
-        }
-        TemperatureAnswer::Refused(e) => {
-            put(out, at, 0);
-            e.number()
-        }
+        TemperatureAnswer::Degrees(_) => 0,
+        TemperatureAnswer::Refused(e) => e.number(),
+    }
+}
+
+fn sensed_of(answer: TemperatureAnswer) -> usize
+    ensures { λ r. ⌜ r ≡ valueOf sensed (asTemperature answer) ⌝ }
+{
+    match answer {
+        TemperatureAnswer::Degrees(read) => degrees(read),
+        TemperatureAnswer::Refused(_) => 0,
     }
 }
 
