@@ -1,5 +1,5 @@
 //! The Rust crate behind the functions that the harness calls, with the signatures of the port's: bq769x0.h and calls.h have them. One
-//! library for each of harness.c's groups of calls, `five`, `rest` and `commands`, so that the calls of one are compiled as if alone.
+//! library for each of harness.c's groups of calls, `five`, `rest` and `commands`: a group is compiled with no other's callers beside it.
 #![no_std]
 #![allow(incomplete_features, dead_code, unused_macros)]
 #![feature(generic_const_exprs)]
@@ -172,7 +172,7 @@ pub unsafe extern "C" fn bench_read_raw(
     answer!(check, tape, log, |used, logged, five: &[u32; 5]| tell_ends(out, used, logged, five), read_raw(&record, reg, data))
 }
 
-/// The calls on a record that lend nothing but tape and log, each by `tell`.
+/// The calls on a record that are lent nothing but tape and log, each with what tells its outcome.
 macro_rules! on_record {
     ($($function:ident: $call:ident($($argument:ident: $type:ty),*), $tell:ident;)*) => {$(
         #[no_mangle]
