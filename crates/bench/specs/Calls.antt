@@ -15,7 +15,6 @@ use Rattle.bus.specs.declared.Cursor.{Cursor}
 use Rattle.bus.specs.declared.link.Link.{Link}
 use Rattle.bq769x0.specs.Record.{ofParts}
 use Rattle.bq769x0.specs.declared.BQ769x0.{BQ769x0}
-use Rattle.procedure.specs.Cells.{Filled}
 use Rattle.measuring.specs.declared.degrees.Temperature.{Temperature}
 use Rattle.measuring.specs.declared.degrees.Temperature.the-variants as T
 
@@ -75,9 +74,6 @@ givenOf inNumber answer b lent = record { told = told inNumber (b .at) answer; l
 abbrev pub asTold : {A : Type 0} → (A → ℕ) → Ran (Answer A) → Given
 asTold inNumber r = givenOf inNumber (r .answer) (r .bus) []
 
--- with the bytes that a read filled, or the list
+-- with the bytes that a read filled
 abbrev pub asRead : Ran Read → Given
 asRead r = givenOf nothing (r .answer .answer) (r .bus) (r .answer .bytes)
-
-abbrev pub asCells : Ran Filled → Given
-asCells r = givenOf nothing (r .answer .answer) (r .bus) (r .answer .list)

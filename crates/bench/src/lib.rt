@@ -1,4 +1,4 @@
-// Six calls for the bench's C, each on a tape and a log that nothing is used of: the number, 0 where accepted,
+// Five calls for the bench's C, each on a tape and a log that nothing is used of: the number, 0 where accepted,
 // and in out how far tape and log are then used, and the answer's value as a number.
 ghost use mathlib.Core.Path.{_≡_};
 ghost use mathlib.Core.List.{[]};
@@ -7,16 +7,14 @@ ghost use Rattle.bus.specs.Transfers.{start};
 ghost use Rattle.bus.specs.Programs.{onTape};
 ghost use Rattle.bus.specs.Lent.{lentBus};
 ghost use Rattle.bus.specs.Raw.{readRaw, writeRaw};
-ghost use Rattle.procedure.specs.Cells.{cellVoltages};
 ghost use Rattle.measuring.specs.Pack.{current, voltage};
 ghost use Rattle.measuring.specs.Temperature.{temperature};
 ghost use Rattle.bench.specs.Calls.{linkBy, recordBy, nothing, itself, sensed};
-ghost use Rattle.bench.specs.Calls.{given, asRead, asCells, asTold};
+ghost use Rattle.bench.specs.Calls.{given, asRead, asTold};
 use adc::transfer::AdcTransferFunction;
 use bq769x0::BQ769x0;
 use bus::Cursor;
 use bus::link::Link;
-use cells::crate_list;
 use measuring::pack;
 use measuring::temperature;
 use units::MicroOhms;
@@ -86,31 +84,6 @@ pub extern "C" fn bench_write_raw(
     let made = raw::write_raw(link, reg, data, tape, log, Cursor { tape: 0, log: 0 });
     let answer = made.answer;
     let at = made.at;
-    told::done(answer, at, out)
-}
-
-#[no_mangle]
-pub extern "C" fn bench_cells(
-    x: u8,
-    cell_count: u8,
-    address: u8,
-    check: bool,
-    gain: u16,
-    b51: u8,
-    shunt: u32,
-    list: &mut [u32],
-    tape: &[u8],
-    log: &mut [u8],
-    out: &mut [usize; 3],
-) -> u8
-    ensures { λ r. ⌜ given r (now (out .exit)) (now (log .exit)) (now (list .exit))
-        ≡ asCells (onTape (cellVoltages (recordBy x «cell_count» address check gain b51 shunt) (now (list .entry)))
-        (lentBus tape log start)) ⌝ }
-{
-    let device = record_by(x, cell_count, address, check, gain, b51, shunt);
-    let read = crate_list::cell_voltages(device, list, tape, log, Cursor { tape: 0, log: 0 });
-    let answer = read.answer;
-    let at = read.at;
     told::done(answer, at, out)
 }
 

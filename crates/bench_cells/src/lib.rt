@@ -1,0 +1,37 @@
+// The cells by the crate's list for the bench's C, apart from the other calls: in one library with `read_raw`, which reads the inputs
+// too, the compiler calls it for both and takes it into neither.
+ghost use mathlib.Core.Path.{_≡_};
+ghost use Rattle.bus.specs.Transfers.{start};
+ghost use Rattle.bus.specs.Programs.{onTape};
+ghost use Rattle.bus.specs.Lent.{lentBus};
+ghost use Rattle.procedure.specs.Cells.{cellVoltages};
+ghost use Rattle.bench.specs.Calls.{recordBy, given};
+ghost use Rattle.bench_cells.specs.Listed.{asCells};
+use bench::told;
+use bus::Cursor;
+use cells::crate_list;
+
+#[no_mangle]
+pub extern "C" fn bench_cells(
+    x: u8,
+    cell_count: u8,
+    address: u8,
+    check: bool,
+    gain: u16,
+    b51: u8,
+    shunt: u32,
+    list: &mut [u32],
+    tape: &[u8],
+    log: &mut [u8],
+    out: &mut [usize; 3],
+) -> u8
+    ensures { λ r. ⌜ given r (now (out .exit)) (now (log .exit)) (now (list .exit))
+        ≡ asCells (onTape (cellVoltages (recordBy x «cell_count» address check gain b51 shunt) (now (list .entry)))
+        (lentBus tape log start)) ⌝ }
+{
+    let device = bench::record_by(x, cell_count, address, check, gain, b51, shunt);
+    let read = crate_list::cell_voltages(device, list, tape, log, Cursor { tape: 0, log: 0 });
+    let answer = read.answer;
+    let at = read.at;
+    told::done(answer, at, out)
+}
