@@ -1,13 +1,12 @@
-// Five calls for the bench's C, each on a tape and a log that nothing is used of: the number, 0 where accepted,
+// Four calls for the bench's C, each on a tape and a log that nothing is used of: the number, 0 where accepted,
 // and in out how far tape and log are then used, and the answer's value as a number.
 ghost use mathlib.Core.Path.{_≡_};
 ghost use mathlib.Core.List.{[]};
-ghost use Rattle.numbers.specs.Numbers.{asU32};
 ghost use Rattle.bus.specs.Transfers.{start};
 ghost use Rattle.bus.specs.Programs.{onTape};
 ghost use Rattle.bus.specs.Lent.{lentBus};
 ghost use Rattle.bus.specs.Raw.{readRaw, writeRaw};
-ghost use Rattle.measuring.specs.Pack.{current, voltage};
+ghost use Rattle.measuring.specs.Pack.{voltage};
 ghost use Rattle.measuring.specs.Temperature.{temperature};
 ghost use Rattle.bench.specs.Calls.{linkBy, recordBy, nothing, itself, sensed};
 ghost use Rattle.bench.specs.Calls.{given, asRead, asTold};
@@ -85,29 +84,6 @@ pub extern "C" fn bench_write_raw(
     let answer = made.answer;
     let at = made.at;
     told::done(answer, at, out)
-}
-
-#[no_mangle]
-pub extern "C" fn bench_current(
-    x: u8,
-    cell_count: u8,
-    address: u8,
-    check: bool,
-    gain: u16,
-    b51: u8,
-    shunt: u32,
-    tape: &[u8],
-    log: &mut [u8],
-    out: &mut [usize; 3],
-) -> u8
-    ensures { λ r. ⌜ given r (now (out .exit)) (now (log .exit)) []
-        ≡ asTold asU32 (onTape (current (recordBy x «cell_count» address check gain b51 shunt)) (lentBus tape log start)) ⌝ }
-{
-    let device = record_by(x, cell_count, address, check, gain, b51, shunt);
-    let read = pack::current(device, tape, log, Cursor { tape: 0, log: 0 });
-    let answer = read.answer;
-    let at = read.at;
-    told::flow(answer, at, out)
 }
 
 #[no_mangle]

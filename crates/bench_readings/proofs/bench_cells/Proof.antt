@@ -1,13 +1,13 @@
--- `bench_cells::bench_cells` meets its contract. Assumes nothing.
+-- `bench_readings::bench_cells` meets its contract. Assumes nothing.
 use denote.Ref.{now}
 use Rattle.bq769x0.specs.declared.BQ769x0.{BQ769x0}
 use Rattle.bus.specs.Programs.{Prog}
 use Rattle.procedure.specs.Cells.{Filled, cellVoltages}
-use Rattle.bench_cells.specs.Listed.{asCells}
+use Rattle.bench_readings.specs.Listed.{asCells}
 use Rattle.bench.proofs.OnRecord.{on-record}
 use borrow.Author.Needs.{needs}
-use Rattle.bench_cells.proofs.bench_cells.Statement.{statement}
-use Rattle.bench_cells.proofs.bench_cells.Tie as tie
+use Rattle.bench_readings.proofs.bench_cells.Statement.{statement}
+use Rattle.bench_readings.proofs.bench_cells.Tie as tie
 
 -- ---- what is read of a record
 module _ (s : tie.Start) where

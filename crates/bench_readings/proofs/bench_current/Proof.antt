@@ -1,11 +1,11 @@
--- `bench::bench_current` meets its contract. Assumes nothing.
+-- `bench_readings::bench_current` meets its contract. Assumes nothing.
 use Rattle.numbers.specs.Numbers.{asU32}
 use Rattle.measuring.specs.Pack.{current}
 use Rattle.bench.specs.Calls.{asTold}
 use Rattle.bench.proofs.OnRecord.{on-record}
 use borrow.Author.Needs.{needs}
-use Rattle.bench.proofs.bench_current.Statement.{statement}
-use Rattle.bench.proofs.bench_current.Tie as tie
+use Rattle.bench_readings.proofs.bench_current.Statement.{statement}
+use Rattle.bench_readings.proofs.bench_current.Tie as tie
 
 -- ---- the places, each from a later one
 abbrev at-record : tie.After-current → tie.After-record-by
