@@ -1,4 +1,7 @@
-// One register read, two read, and one and six written, each as `read_raw` and `write_raw` do it for that count.
+// One register read, two read, and one and six written, each as `read_raw` and `write_raw` do it for that count: by the short way of
+// `well` where it can be gone, else by the long way from the start. A field of the tape has three bytes ahead of its value; a read's
+// field in the log has seven, a write's four and its frame. What the long way is lent is held apart, so that the compiler need not keep
+// the caller's bytes in memory for it.
 ghost use mathlib.Core.Path.{_≡_};
 ghost use mathlib.Core.Bool.{true, false};
 ghost use Prim.Native.Nat.{_+_, _^_, _≤_, _<_};
