@@ -17,11 +17,11 @@ use Rattle.laws.proofs.Tests.{both-right}
 use borrow.Author.Tests.{lt-ltb, le-ltb, eq-eqb, ne-eqb, eqb-true, eqb-false, ltb-false}
 use Rattle.refusals.specs.Refusal.{Refusal, Answer, value, refused, no}
 use Rattle.laws.specs.Choice.{if_then_else_}
-use Rattle.bus.specs.Transfers.{Bus}
+use Rattle.bus.specs.Transfers.{Bus, done}
 use Rattle.bus.specs.Programs.{ret, Ran, onTape}
 use Rattle.bus.specs.Raw.{Done, sound, refuses, gives}
 use Rattle.bus.specs.Raw.{plainRead, askFrame, checkedRead, readRaw}
-use Rattle.bus.specs.Raw.{askWrite, send, compared, askBack, writeRaw}
+use Rattle.bus.specs.Raw.{askWrite, send, compared, verified, askBack, writeRaw}
 use Rattle.bus.proofs.Programs.{went-on, went-off}
 use Rattle.bus.specs.declared.link.Link.{Link}
 
@@ -78,6 +78,11 @@ module _ (reg : ℕ) (bytes back : List ℕ) (i : ℕ) (more : i < length bytes)
       → compared (reg + i) (drop i bytes) (drop i back) ≡ refused (no 5 (pos (reg + i) ∷ []))
   unfolding compared
   compared-differs e = compared-step ∙ rw (ne-eqb _ _ e)
+
+-- what was read back is compared from the first byte written on
+pub verified-done : (reg : ℕ) (bytes back : List ℕ) → verified reg bytes (done back) ≡ compared reg bytes back
+unfolding verified
+verified-done reg bytes back = refl
 
 pub compared-end : (reg : ℕ) (bytes back : List ℕ) (i : ℕ) → length bytes ≤ i
     → compared reg (drop i bytes) back ≡ value tt

@@ -8,6 +8,7 @@ use native.Mathlib.Omega.{arith}
 use lib.ListN.{length, take, replicate}
 use lib.Seq.{take-all}
 use borrow.Author.Tests.{le-ltb}
+use Rattle.bus.proofs.Raws.{verified-done}
 use Rattle.refusals.specs.Refusal.{Refusal, Answer, value, refused}
 use Rattle.frames.specs.Frames.{readByte, right, dataOf, writeFrame, written}
 use Rattle.frames.specs.Put.{put}
@@ -99,9 +100,9 @@ verified-off reg bytes held (Stopped y) x e = refl
 verified-on : (reg : ℕ) (bytes held : List ℕ) (r : Reply) → ((n : ℕ) → r ≡ Made false n → length held ≤ n)
     → answerTo r ≡ value tt
     → compared reg bytes held ≡ verified reg bytes (outcomeOf r held)
-unfolding verified
 verified-on reg bytes held (Made true n) h e = let z : _≡_ {A = ℕ} 0 1 = cc in absurd (omega arith)
-verified-on reg bytes held (Made false n) h e = ap (compared reg bytes) (sym (take-all n held (h n refl)))
+verified-on reg bytes held (Made false n) h e =
+    ap (compared reg bytes) (sym (take-all n held (h n refl))) ∙ sym (verified-done reg bytes (take n held))
 verified-on reg bytes held (Stopped y) h e = let z : _≡_ {A = ℕ} 0 1 = cc in absurd (omega arith)
 
 module _ (address reg : ℕ) (bytes : List ℕ) (b : Bus)
