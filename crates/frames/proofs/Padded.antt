@@ -11,9 +11,9 @@ use lib.Seq.{take-all, drop-at}
 use borrow.Author.Tests.{eq-eqb}
 use Rattle.check_byte.specs.CheckByte.{checkByte}
 use Rattle.check_byte.proofs.Zeros.{zero-alone}
-use Rattle.frames.specs.Frames.{readByte, checked, right, dataOf, framed, readFrame}
+use Rattle.frames.specs.Frames.{readByte, right, dataOf}
 use Rattle.frames.specs.Put.{put}
-use Rattle.frames.proofs.Checked.{length-checked, data-checked, length-data}
+use Rattle.frames.proofs.Checked.{length-data}
 use Rattle.frames.proofs.Parts.{right-append, data-append}
 use Rattle.frames.proofs.Put.{take-front}
 
@@ -103,7 +103,7 @@ module _ (f p : List ℕ) (n : ℕ) (is : p ≡ put (replicate 66 0) 0 f) (size 
       ∙ ap (right before) (taken-zeros (8 * eights + 1 - n) (omega arith))
       ∙ right-then before f (8 * eights + 1 - n) (omega arith) (omega arith)
 
-  pub padded-put : put (replicate 32 0) 0 (take 32 (dataOf (take (16 * ((n + 7) / 8)) p))) ≡ put (replicate 32 0) 0 (dataOf f)
+  padded-put : put (replicate 32 0) 0 (take 32 (dataOf (take (16 * ((n + 7) / 8)) p))) ≡ put (replicate 32 0) 0 (dataOf f)
   padded-put =
       let more = zeros (8 * eights - n) in
       let fits : length (dataOf f ++ more) ≤ 32 =
@@ -116,13 +116,3 @@ module _ (f p : List ℕ) (n : ℕ) (is : p ≡ put (replicate 66 0) 0 f) (size 
   padded-data =
       ap₂ take (sym length-frame) padded-put
       ∙ take-front (zeros 32) (dataOf f) (omega (arith, length-frame, length-zeros 32))
-
--- what is taken out of the frame of a read, with zeros after it, is what was read
-pub read-back : (address : ℕ) (bytes : List ℕ) → 1 ≤ length bytes → length bytes ≤ 30
-    → let eights = (length bytes + 7) / 8 in
-    let padded = put (replicate 66 0) 0 (readFrame true address bytes) in
-    take (length bytes) (put (replicate 32 0) 0 (take 32 (dataOf (take (16 * eights) padded)))) ≡ bytes
-unfolding readFrame framed
-read-back address bytes some few =
-    let before = readByte address ∷ [] in
-    padded-data (checked before bytes) _ (length bytes) refl (length-checked before bytes) some few ∙ data-checked before bytes

@@ -11,7 +11,7 @@ use lib.Seq.{take-at, drop-cons}
 use lib.Dec.{T, eqb, leb, eqb→eq}
 use mir.Facts.{or-yes}
 use Rattle.laws.proofs.Tests.{both-right}
-use borrow.Author.Tests.{eq-eqb, ne-eqb}
+use borrow.Author.Tests.{ne-eqb}
 use Rattle.check_byte.specs.CheckByte.{checkByte}
 use Rattle.refusals.specs.Refusal.{Answer, value}
 use Rattle.refusals.specs.declared.Error.{Error}
@@ -28,7 +28,7 @@ use Rattle.raw.specs.Replies.{answerTo, taken, onward, ReadBy, WrittenBy
 use Rattle.raw.specs.declared.transfer.Moved.{Moved}
 use Rattle.raw.specs.declared.transfer.Reply.{Reply}
 use Rattle.raw.specs.declared.transfer.Reply.the-variants.{Made, Stopped}
-use Rattle.raw.proofs.Asked.{plain-read, taken-wrong, taken-right, frame-read, back-on, write-sent}
+use Rattle.raw.proofs.Asked.{plain-read, taken-wrong, taken-right, frame-read, write-sent}
 
 -- ---- done, or nothing touched
 module _ (t : Transfer) (b : Bus) (buf buf′ log′ : List ℕ) where

@@ -12,7 +12,7 @@ use Rattle.refusals.specs.Refusal.{Answer, value}
 use Rattle.frames.specs.Frames.{checked, framed, writeFrame}
 use Rattle.frames.proofs.Steps.{shifted}
 use Rattle.bus.specs.Transfers.{read, write, Bus, busOf}
-use Rattle.bus.specs.Programs.{Prog, Ran, ran, onTape}
+use Rattle.bus.specs.Programs.{Ran, ran, onTape}
 use Rattle.bus.specs.Raw.{Done, sound, compared, askBack, writeRaw}
 use Rattle.bus.specs.declared.Cursor.{Cursor}
 use Rattle.bus.specs.declared.link.Link.{Link}

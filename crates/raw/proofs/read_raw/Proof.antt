@@ -1,7 +1,7 @@
 -- `raw::read_raw` meets its contract: done by the short way, or by the long way with nothing touched before. Assumes nothing.
-use mathlib.Core.Path.{_≡_, refl, sym, ap, subst, _∙_}
+use mathlib.Core.Path.{_≡_, sym, ap, subst, _∙_}
 use mathlib.Core.Bool.{Bool, true, false, not, _&&_, and-eq-true-iff}
-use mathlib.Core.Logic.{_⊎_, inl, inr}
+use mathlib.Core.Logic.{inl, inr}
 use mathlib.Core.List.{List}
 use Prim.Native.Nat.{ℕ, _+_, _*_, _^_, _≤_, _<_}
 use native.Mathlib.Omega.{arith}
@@ -10,10 +10,9 @@ use lib.Seq.{length-take-le}
 use lib.Dec.{leb, eqb}
 use borrow.Author.Tests.{leb-true, eqb-false, not-true}
 use denote.Ref.{now}
-use Rattle.refusals.specs.Refusal.{value}
 use Rattle.bus.specs.Transfers.{Bus, busOf, read}
 use Rattle.bus.specs.Programs.{ran, onTape}
-use Rattle.bus.specs.Raw.{sound, Read, gives, readRaw}
+use Rattle.bus.specs.Raw.{sound, Read, readRaw}
 use Rattle.bus.proofs.Raws.{zeros, sound-x}
 use Rattle.raw.specs.Replies.{taken, onward, GotBy}
 use Rattle.raw.specs.declared.transfer.Reply.the-variants.{Made}

@@ -1,5 +1,4 @@
 -- `raw::transfer::log_read` meets its contract. Assumes nothing.
-use Rattle.bus.specs.Fields.{field}
 use Rattle.bus.specs.Transfers.{logField}
 use borrow.Author.Needs.{needs}
 use Rattle.raw.proofs.transfer.log_read.Statement.{statement}
