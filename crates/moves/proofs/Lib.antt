@@ -1,2 +1,3 @@
+pub mod Agree
 pub mod CrateList
 pub mod Front

@@ -1,9 +1,9 @@
 -- The record's cells by the inputs moved before they are stored: a sound record's pack has no move that reaches past the device's inputs,
 -- and no more cells than these.
 -- Assumes nothing.
-use mathlib.Core.Path.{_≡_, refl, sym, ap, _∙_}
+use mathlib.Core.Path.{_≡_, sym, ap, _∙_}
 use mathlib.Core.Bool.{true, _&&_}
-use mathlib.Core.List.{List, [], _∷_, _++_, map, map-map}
+use mathlib.Core.List.{List, _++_, map, map-map}
 use mathlib.Core.Logic.{⊎-elim}
 use Prim.Native.Nat.{ℕ, _≤_}
 use native.Mathlib.Omega.{arith}
@@ -19,6 +19,7 @@ use Rattle.numbers.specs.Numbers.{asU32}
 use Rattle.units.specs.declared.MilliVolts.{MilliVolts}
 use Rattle.wiring.proofs.Packs.{of-pack}
 use Rattle.moves.specs.Moves.{Move, moves, inTurn, volts, firstCells, named}
+use Rattle.moves.proofs.Agree.{unnamed}
 use Rattle.moves.proofs.Front.{inFront, length-turned, turned-front}
 use Rattle.bq769x0.specs.Record.{isZero, isSound, withReadings}
 use Rattle.bq769x0.specs.declared.BQ769x0.{BQ769x0}
@@ -26,10 +27,6 @@ use Rattle.bq769x0.proofs.Keeps.{decides}
 use Rattle.bq769x0.proofs.Sizes.{sound-pack}
 use Rattle.procedure.specs.Inputs.{asCells}
 use Rattle.procedure.specs.Cells.{taking}
-
-unnamed : (l : List ℕ) → map volts (map named l) ≡ l
-unnamed [] = refl
-unnamed (n ∷ l) = ap (λ (r : List ℕ). n ∷ r) (unnamed l)
 
 module _ (d : BQ769x0) (sound : isSound d ≡ true) where
   abbrev x : ℕ

@@ -12,7 +12,7 @@ use bus::Cursor;
 
 // Whether the tape's next field is that of a transfer that is done, with all that it wants.
 fn is_done(tape: &[u8], from: usize, want: usize) -> bool
-    requires { ⌜ want ≤ 4294967295 ⌝ }
+    requires { ⌜ want ≤ 256 ⌝ }
     ensures { λ r. ⌜ (r ≡ true → Heard want (drop from (now (tape .entry)))
         (says want (drop from (now (tape .entry)))) (Made false want)) ⌝ }
 {
