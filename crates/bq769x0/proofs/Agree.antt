@@ -1,5 +1,4 @@
 -- Two outcomes that meet one promise agree: in the answer, the record, the tape's and the log's position, and the log's bytes.
--- `read_raw` and `write_raw` have the bus's promise, of which the bus's `read-agree` and `write-agree` speak, whatever the program.
 -- Assumes nothing.
 use mathlib.Core.Path.{_≡_, refl, sym, ap, _∙_}
 use Prim.Native.Nat.{ℕ}
@@ -11,9 +10,12 @@ use Rattle.bus.specs.Transfers.{Bus}
 use Rattle.bus.specs.Programs.{Prog, Ran, ran, onTape}
 use Rattle.bus.specs.Raw.{Done}
 use Rattle.bus.specs.declared.Cursor.{Cursor}
-use Rattle.bq769x0.specs.Record.{Left, leaves, asMade, asNew}
+use Rattle.bq769x0.specs.Record.{unread, headOf, withHead, Left, leaves, asMade, asNew}
 use Rattle.bq769x0.specs.declared.BQ769x0.{BQ769x0}
+use Rattle.bq769x0.specs.declared.Head.{Head}
+use Rattle.bq769x0.specs.declared.Readings.{Readings}
 use Rattle.bq769x0.specs.declared.record.New.{New}
+use Rattle.bq769x0.specs.declared.record.NewHead.{NewHead}
 use Rattle.bq769x0.specs.declared.record.NewAnswer.{NewAnswer}
 use Rattle.bq769x0.specs.declared.record.NewAnswer.the-variants as N
 
@@ -34,6 +36,19 @@ new-agree r r′ e =
     let a = made-agree (r .answer) (r′ .answer) (ap (λ (x : Left Done). x .answer) e) in
     let d = ap (λ (x : Left Done). x .device) e in
     λ i. record { answer = a i; device = d i }
+
+-- a head is known by its record, whatever the readings
+pub head-agree : (h h′ : Head) (readings : Readings) → withHead h readings ≡ withHead h′ readings → h ≡ h′
+head-agree h h′ readings e = ap (λ (d : BQ769x0). headOf d) e
+
+-- `Head::new`
+pub new-head-agree : (r r′ : NewHead)
+    → leaves (asMade (r .answer)) (withHead (r .head) unread) ≡ leaves (asMade (r′ .answer)) (withHead (r′ .head) unread)
+    → r ≡ r′
+new-head-agree r r′ e =
+    let a = made-agree (r .answer) (r′ .answer) (ap (λ (x : Left Done). x .answer) e) in
+    let h = head-agree (r .head) (r′ .head) unread (ap (λ (x : Left Done). x .device) e) in
+    λ i. record { head = h i; answer = a i }
 
 -- a call that answers, leaves a record and moves the cursor, whatever its program
 module _ {A : Type 0} (p : Prog (Left A)) (b : Bus) where

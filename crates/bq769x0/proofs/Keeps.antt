@@ -1,12 +1,13 @@
 -- The test decides just soundness; `new` gives a sound record, and the readings have no part in it.
 -- Assumes nothing.
-use mathlib.Core.Path.{_≡_, refl, ap, _∙_}
+use mathlib.Core.Path.{_≡_, refl, sym, ap, _∙_}
 use mathlib.Core.Bool.{Bool, true, false≢true, _&&_, and-eq-true-iff}
 use Prim.Native.Nat.{ℕ}
 use lib.Dec.{leb}
 use Rattle.refusals.specs.Refusal.{Answer, value, refused}
+use Rattle.refusals.proofs.Values.{refused-not}
 use Rattle.bus.specs.Raw.{Done}
-use Rattle.bq769x0.specs.Record.{deviceFor, fresh, madeBy, newFor}
+use Rattle.bq769x0.specs.Record.{deviceFor, fresh, Left, leaves, madeBy, newFor}
 use Rattle.bq769x0.specs.Record.{accepts, calibratedRight, Sound, isSound, withReadings}
 use Rattle.bq769x0.specs.declared.BQ769x0.{BQ769x0}
 use Rattle.bq769x0.specs.declared.Readings.{Readings}
@@ -30,11 +31,20 @@ unfolding isSound
 decided d s = rw (s .device, s .calibrated, s .shunted, s .marked)
 
 -- ---- `new`
-pub new-sound : (x address n : ℕ) (check : Bool) → deviceFor x address n ≡ value tt → isSound (newFor x address n check .device) ≡ true
+fresh-sound : (x address n : ℕ) (check : Bool) → deviceFor x address n ≡ value tt → isSound (fresh x address n check) ≡ true
+fresh-sound x address n check e =
+    decided (fresh x address n check) (record { device = e; calibrated = refl; shunted = refl; marked = refl })
+
+made-sound : (y : Answer Done) (made : BQ769x0) → (y ≡ value tt → isSound made ≡ true)
+    → {a : Answer Done} {d : BQ769x0} → leaves a d ≡ madeBy y made → a ≡ value tt → isSound d ≡ true
+made-sound (value done) made sound e t = ap (λ (l : Left Done). isSound (l .device)) e ∙ sound refl
+made-sound (refused r) made sound e t = refused-not (sym (ap (λ (l : Left Done). l .answer) e) ∙ t)
+
+-- the record of an outcome that is not refused
+pub new-sound : (x address n : ℕ) (check : Bool) {a : Answer Done} {d : BQ769x0}
+    → leaves a d ≡ newFor x address n check → a ≡ value tt → isSound d ≡ true
 unfolding newFor
-new-sound x address n check e =
-    ap (λ (y : Answer Done). isSound (madeBy y (fresh x address n check) .device)) e
-    ∙ decided (fresh x address n check) (record { device = e; calibrated = refl; shunted = refl; marked = refl })
+new-sound x address n check = made-sound (deviceFor x address n) (fresh x address n check) (fresh-sound x address n check)
 
 -- ---- the readings, of which soundness does not speak
 pub readings-sound : (d : BQ769x0) (readings : Readings) → isSound (withReadings d readings) ≡ isSound d

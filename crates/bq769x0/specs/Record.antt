@@ -15,6 +15,7 @@ use Rattle.bus.specs.declared.link.Link.{Link}
 use Rattle.adc.specs.declared.transfer.AdcTransferFunction.{AdcTransferFunction}
 use Rattle.units.specs.declared.MicroOhms.{MicroOhms}
 use Rattle.bq769x0.specs.declared.BQ769x0.{BQ769x0}
+use Rattle.bq769x0.specs.declared.Head.{Head}
 use Rattle.bq769x0.specs.declared.Readings.{Readings}
 use Rattle.bq769x0.specs.declared.record.New.{New}
 use Rattle.bq769x0.specs.declared.record.NewAnswer.{NewAnswer}
@@ -36,6 +37,26 @@ ofParts link n adc shunt mark = record {
   shunt = shunt;
   «init_complete» = mark;
   readings = unread;
+}
+
+-- a record's part without its readings, and the record of a head and readings
+abbrev pub headOf : BQ769x0 → Head
+headOf d = record {
+  link = d .link;
+  «cell_count» = d .«cell_count»;
+  adc = d .adc;
+  shunt = d .shunt;
+  «init_complete» = d .«init_complete»;
+}
+
+abbrev pub withHead : Head → Readings → BQ769x0
+withHead head readings = record {
+  link = head .link;
+  «cell_count» = head .«cell_count»;
+  adc = head .adc;
+  shunt = head .shunt;
+  «init_complete» = head .«init_complete»;
+  readings = readings;
 }
 
 -- nothing read and nothing set up

@@ -1,11 +1,10 @@
-// The driver: its record, and the calls on it.
+// The driver's record.
 use adc::transfer::AdcTransferFunction;
 use bus::link::Link;
 use units::MicroOhms;
 use units::MilliVolts;
 
 pub mod record;
-pub mod registers;
 
 pub struct BQ769x0 {
     pub link: Link,
@@ -14,6 +13,15 @@ pub struct BQ769x0 {
     pub shunt: MicroOhms,
     pub init_complete: bool,
     pub readings: Readings,
+}
+
+// A record without its readings.
+pub struct Head {
+    pub link: Link,
+    pub cell_count: u8,
+    pub adc: AdcTransferFunction,
+    pub shunt: MicroOhms,
+    pub init_complete: bool,
 }
 
 // What the last accepted reading gave.

@@ -1,9 +1,11 @@
 // The record: made by `new`, changed by the setters below, and sound or not.
 ghost use mathlib.Core.Path.{_≡_};
 ghost use Rattle.refusals.specs.Refusal.{asRefusal, refusalIn};
-ghost use Rattle.bq769x0.specs.Record.{unread, ofParts, fresh, deviceFor, asMade, asNew, newFor, calibratedRight, markedRight, isSound};
-ghost use Rattle.bq769x0.specs.Record.{withCalibration, withShunt, withReadings};
+ghost use Rattle.bq769x0.specs.Record.{unread, ofParts, headOf, withHead, fresh, deviceFor, asMade, asNew, newFor};
+ghost use Rattle.bq769x0.specs.Record.{leaves, calibratedRight, markedRight, isSound, withCalibration, withShunt, withReadings};
+ghost use Rattle.bq769x0.specs.declared.Readings.{Readings};
 use crate::BQ769x0;
+use crate::Head;
 use crate::Readings;
 use adc::transfer::AdcTransferFunction;
 use bus::link::Link;
@@ -20,6 +22,12 @@ pub enum NewAnswer {
 pub struct New {
     pub answer: NewAnswer,
     pub device: BQ769x0,
+}
+
+// The same, without readings.
+pub struct NewHead {
+    pub answer: NewAnswer,
+    pub head: Head,
 }
 
 impl NewAnswer {
@@ -50,16 +58,11 @@ impl BQ769x0 {
     pub fn new(x: u8, dev_address: u8, cell_count: u8, check: bool) -> New
         ensures { λ r. ⌜ asNew r ≡ newFor x «dev_address» «cell_count» check ⌝ }
     {
-        let answer = device_answer(x, dev_address, cell_count);
-        let NewAnswer::Made = answer else {
-            return New {
-                answer,
-                device: fresh(0, 0, 0, false),
-            };
-        };
+        let made = Head::new(x, dev_address, cell_count, check);
+        let answer = made.answer;
         New {
             answer,
-            device: fresh(x, dev_address, cell_count, check),
+            device: BQ769x0::of_head(made.head),
         }
     }
 
@@ -73,14 +76,43 @@ impl BQ769x0 {
     ) -> BQ769x0
         ensures { λ r. ⌜ r ≡ ofParts link «cell_count» adc shunt «init_complete» ⌝ }
     {
-        BQ769x0 {
+        let head = Head {
             link,
             cell_count,
             adc,
             shunt,
             init_complete,
-            readings: unread(),
+        };
+        BQ769x0::of_head(head)
+    }
+
+    // A record of this head, of which nothing is read yet.
+    pub fn of_head(head: Head) -> BQ769x0
+        ensures { λ r. ⌜ r ≡ withHead head unread ⌝ }
+    {
+        joined(head, unread())
+    }
+
+    pub fn head(self) -> Head
+        ensures { λ r. ⌜ r ≡ headOf self ⌝ }
+    {
+        let link = self.link;
+        let adc = self.adc;
+        let shunt = self.shunt;
+        Head {
+            link,
+            cell_count: self.cell_count,
+            adc,
+            shunt,
+            init_complete: self.init_complete,
         }
+    }
+
+    // The record of this head, with its own readings.
+    pub fn with_head(self, head: Head) -> BQ769x0
+        ensures { λ r. ⌜ r ≡ withHead head (self .readings) ⌝ }
+    {
+        joined(head, self.readings)
     }
 
     pub fn adc_gain(self) -> u16
@@ -141,15 +173,6 @@ impl BQ769x0 {
         device
     }
 
-    pub fn store_shunt(self, shunt: MicroOhms) -> BQ769x0
-        ensures { λ r. ⌜ r ≡ withShunt self shunt ⌝ }
-    {
-        let mut device = self;
-        device.shunt = shunt;
-        device.init_complete = true;
-        device
-    }
-
     // Soundness does not speak of the readings.
     pub fn store_readings(self, readings: Readings) -> BQ769x0
         ensures { λ r. ⌜ r ≡ withReadings self readings ⌝ }
@@ -157,6 +180,42 @@ impl BQ769x0 {
         let mut device = self;
         device.readings = readings;
         device
+    }
+}
+
+// What setting up makes and changes.
+impl Head {
+    pub fn new(x: u8, dev_address: u8, cell_count: u8, check: bool) -> NewHead
+        ensures { λ r. ⌜ leaves (asMade (r .answer)) (withHead (r .head) unread) ≡ newFor x «dev_address» «cell_count» check ⌝ }
+    {
+        let answer = device_answer(x, dev_address, cell_count);
+        let NewAnswer::Made = answer else {
+            return NewHead {
+                answer,
+                head: fresh(0, 0, 0, false),
+            };
+        };
+        NewHead {
+            answer,
+            head: fresh(x, dev_address, cell_count, check),
+        }
+    }
+
+    pub fn store_calibration(self, adc: AdcTransferFunction) -> Head
+        ensures { λ r. ⌜ ((readings : Readings) → withHead r readings ≡ withCalibration (withHead self readings) adc) ⌝ }
+    {
+        let mut head = self;
+        head.adc = adc;
+        head
+    }
+
+    pub fn store_shunt(self, shunt: MicroOhms) -> Head
+        ensures { λ r. ⌜ ((readings : Readings) → withHead r readings ≡ withShunt (withHead self readings) shunt) ⌝ }
+    {
+        let mut head = self;
+        head.shunt = shunt;
+        head.init_complete = true;
+        head
     }
 }
 
@@ -184,8 +243,24 @@ fn unread() -> Readings
     }
 }
 
-fn fresh(x: u8, dev_address: u8, cell_count: u8, check: bool) -> BQ769x0
-    ensures { λ r. ⌜ r ≡ fresh x «dev_address» «cell_count» check ⌝ }
+fn joined(head: Head, readings: Readings) -> BQ769x0
+    ensures { λ r. ⌜ r ≡ withHead head readings ⌝ }
+{
+    let link = head.link;
+    let adc = head.adc;
+    let shunt = head.shunt;
+    BQ769x0 {
+        link,
+        cell_count: head.cell_count,
+        adc,
+        shunt,
+        init_complete: head.init_complete,
+        readings,
+    }
+}
+
+fn fresh(x: u8, dev_address: u8, cell_count: u8, check: bool) -> Head
+    ensures { λ r. ⌜ withHead r unread ≡ fresh x «dev_address» «cell_count» check ⌝ }
 {
     let link = Link {
         address: dev_address,
@@ -193,5 +268,11 @@ fn fresh(x: u8, dev_address: u8, cell_count: u8, check: bool) -> BQ769x0
         x,
     };
     let adc = AdcTransferFunction { gain: 0, offset: 0 };
-    BQ769x0::of_parts(link, cell_count, adc, MicroOhms(0), false)
+    Head {
+        link,
+        cell_count,
+        adc,
+        shunt: MicroOhms(0),
+        init_complete: false,
+    }
 }

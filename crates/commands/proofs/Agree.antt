@@ -1,5 +1,5 @@
 -- Two outcomes that meet one promise agree: in the answer, the tape's and the log's position, and the log's bytes.
--- Of commands that answer a `Raw` the bus's `write-agree` speaks, whatever the program.
+-- Of commands that answer a `Raw` the bus's `write-agree` speaks, and of `read_raw` its `read-agree`, whatever the program.
 -- Assumes nothing.
 use mathlib.Core.Path.{_≡_, refl, sym, ap, _∙_}
 use Prim.Native.Nat.{ℕ}

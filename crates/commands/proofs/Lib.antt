@@ -1,5 +1,5 @@
 pub mod Agree
-pub mod First
+pub mod Guard
 pub mod OneRegister
 pub mod Source
 pub mod Unwritten

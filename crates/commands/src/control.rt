@@ -30,8 +30,12 @@ pub struct SourceRead {
 pub fn enable_adc(device: BQ769x0, enable: bool, tape: &[u8], log: &mut [u8], at: Cursor) -> Raw
     ensures { λ r. ⌜ does (enableAdc device enable) tape log at (asRaw (r .answer)) (r .at) ⌝ }
 {
+    if !device.is_sound() {
+        return register::refuse(Error::BadDevice, at);
+    }
     let set = bits::placed(0b0001_0000, enable);
-    register::change_bits(device, 0x04, 0b0001_0000, set, tape, log, at)
+    let link = device.link;
+    register::change_bits(link, 0x04, 0b0001_0000, set, tape, log, at)
 }
 
 pub fn set_temperature_source(
@@ -43,8 +47,12 @@ pub fn set_temperature_source(
 ) -> Raw
     ensures { λ r. ⌜ does (setTemperatureSource device source) tape log at (asRaw (r .answer)) (r .at) ⌝ }
 {
+    if !device.is_sound() {
+        return register::refuse(Error::BadDevice, at);
+    }
     let set = source_bits(source);
-    register::change_bits(device, 0x04, 0b0000_1000, set, tape, log, at)
+    let link = device.link;
+    register::change_bits(link, 0x04, 0b0000_1000, set, tape, log, at)
 }
 
 fn source_bits(source: TemperatureSource) -> u8
@@ -59,7 +67,11 @@ fn source_bits(source: TemperatureSource) -> u8
 pub fn temperature_source(device: BQ769x0, tape: &[u8], log: &mut [u8], at: Cursor) -> SourceRead
     ensures { λ r. ⌜ does (temperatureSource device) tape log at (asSource (r .answer)) (r .at) ⌝ }
 {
-    let read = register::read_register(device, 0x04, tape, log, at);
+    if !device.is_sound() {
+        return refuse_source(Error::BadDevice, at);
+    }
+    let link = device.link;
+    let read = register::read_register(link, 0x04, tape, log, at);
     let answer = read.answer;
     let next = read.at;
     match answer {
@@ -67,10 +79,16 @@ pub fn temperature_source(device: BQ769x0, tape: &[u8], log: &mut [u8], at: Curs
             answer: SourceAnswer::Source(source_in(byte)),
             at: next,
         },
-        ByteAnswer::Refused(e) => SourceRead {
-            answer: SourceAnswer::Refused(e),
-            at: next,
-        },
+        ByteAnswer::Refused(e) => refuse_source(e, next),
+    }
+}
+
+fn refuse_source(e: Error, at: Cursor) -> SourceRead
+    ensures { λ r. ⌜ (r .answer ≡ SourceAnswer.Refused e) × (r .at ≡ at) ⌝ }
+{
+    SourceRead {
+        answer: SourceAnswer::Refused(e),
+        at,
     }
 }
 

@@ -7,6 +7,7 @@ use crate::register;
 use bq769x0::BQ769x0;
 use bus::Cursor;
 use bus::link::Raw;
+use refusals::Error;
 
 pub enum CoulombCounterMode {
     Disabled,
@@ -23,8 +24,12 @@ pub fn coulomb_counter_mode(
 ) -> Raw
     ensures { λ r. ⌜ does (coulombCounterMode device mode) tape log at (asRaw (r .answer)) (r .at) ⌝ }
 {
+    if !device.is_sound() {
+        return register::refuse(Error::BadDevice, at);
+    }
     let set = mode_bits(mode);
-    register::change_bits(device, BQ769x0::SYS_CTRL2, 0b0110_0000, set, tape, log, at)
+    let link = device.link;
+    register::change_bits(link, BQ769x0::SYS_CTRL2, 0b0110_0000, set, tape, log, at)
 }
 
 fn mode_bits(mode: CoulombCounterMode) -> u8

@@ -1,13 +1,12 @@
-// One register: its byte read, and some of its bits changed. 9 first on a record that is not sound.
+// One register, by the link: its byte read, and some of its bits changed; and the refusals of both kinds of answer.
+ghost use mathlib.Core.Path.{_≡_};
 ghost use Rattle.bus.specs.Lent.{does};
 ghost use Rattle.bus.specs.Raw.{asRaw};
-ghost use Rattle.refusals.specs.Refusal.{refused, nine};
-ghost use Rattle.bq769x0.specs.Registers.{soundly};
 ghost use Rattle.commands.specs.Answers.{asByte};
 ghost use Rattle.bits.specs.Bits.{putting};
 ghost use Rattle.commands.specs.Registers.{readRegister, changing};
-use bq769x0::BQ769x0;
 use bus::Cursor;
+use bus::link::Link;
 use bus::link::Raw;
 use bus::link::RawAnswer;
 use refusals::Error;
@@ -23,24 +22,20 @@ pub struct ByteRead {
 }
 
 pub(crate) fn read_register(
-    device: BQ769x0,
+    link: Link,
     reg: u8,
     tape: &[u8],
     log: &mut [u8],
     at: Cursor,
 ) -> ByteRead
-    ensures { λ r. ⌜ does (soundly device (refused nine) (readRegister (device .link) reg)) tape log at
-        (asByte (r .answer)) (r .at) ⌝ }
+    ensures { λ r. ⌜ does (readRegister link reg) tape log at (asByte (r .answer)) (r .at) ⌝ }
 {
     let mut data = [0u8; 1];
-    let read = device.read_one(reg, &mut data, tape, log, at);
+    let read = raw::short::read_one(link, reg, &mut data, tape, log, at);
     let answer = read.answer;
     let next = read.at;
     let RawAnswer::Done = answer else {
-        return ByteRead {
-            answer: ByteAnswer::Refused(answer.refusal()),
-            at: next,
-        };
+        return refuse_byte(answer.refusal(), next);
     };
     ByteRead {
         answer: ByteAnswer::Byte(data[0]),
@@ -50,7 +45,7 @@ pub(crate) fn read_register(
 
 // The bits of a mask anew, the others as they are read.
 pub(crate) fn change_bits(
-    device: BQ769x0,
+    link: Link,
     reg: u8,
     mask: u8,
     bits: u8,
@@ -58,17 +53,33 @@ pub(crate) fn change_bits(
     log: &mut [u8],
     at: Cursor,
 ) -> Raw
-    ensures { λ r. ⌜ does (soundly device (refused nine) (changing (device .link) reg (putting mask bits))) tape log at
-        (asRaw (r .answer)) (r .at) ⌝ }
+    ensures { λ r. ⌜ does (changing link reg (putting mask bits)) tape log at (asRaw (r .answer)) (r .at) ⌝ }
 {
     let mut data = [0u8; 1];
-    let read = device.read_one(reg, &mut data, tape, log, at);
+    let read = raw::short::read_one(link, reg, &mut data, tape, log, at);
     let answer = read.answer;
     let next = read.at;
     let RawAnswer::Done = answer else {
         return Raw { answer, at: next };
     };
     let changed = [data[0] & !mask | bits];
-    let link = device.link;
     raw::short::write_one(link, reg, &changed, tape, log, next)
+}
+
+pub(crate) fn refuse(e: Error, at: Cursor) -> Raw
+    ensures { λ r. ⌜ (r .answer ≡ RawAnswer.Refused e) × (r .at ≡ at) ⌝ }
+{
+    Raw {
+        answer: RawAnswer::Refused(e),
+        at,
+    }
+}
+
+pub(crate) fn refuse_byte(e: Error, at: Cursor) -> ByteRead
+    ensures { λ r. ⌜ (r .answer ≡ ByteAnswer.Refused e) × (r .at ≡ at) ⌝ }
+{
+    ByteRead {
+        answer: ByteAnswer::Refused(e),
+        at,
+    }
 }

@@ -2,22 +2,27 @@
 ghost use Rattle.bus.specs.Lent.{does};
 ghost use Rattle.bus.specs.Raw.{asRaw};
 ghost use Rattle.commands.specs.Commands.{shipEnter};
+use crate::register;
 use bq769x0::BQ769x0;
 use bus::Cursor;
 use bus::link::Raw;
 use bus::link::RawAnswer;
+use refusals::Error;
 
 pub fn ship_enter(device: BQ769x0, tape: &[u8], log: &mut [u8], at: Cursor) -> Raw
     ensures { λ r. ⌜ does (shipEnter device) tape log at (asRaw (r .answer)) (r .at) ⌝ }
 {
+    if !device.is_sound() {
+        return register::refuse(Error::BadDevice, at);
+    }
+    let link = device.link;
     let none = [0b0000_0000];
-    let first = device.write_one(0x04, &none, tape, log, at);
+    let first = raw::short::write_one(link, 0x04, &none, tape, log, at);
     let answer = first.answer;
     let next = first.at;
     let RawAnswer::Done = answer else {
         return Raw { answer, at: next };
     };
-    let link = device.link;
     let shut_b = [0b0000_0001];
     let second = raw::short::write_one(link, 0x04, &shut_b, tape, log, next);
     let answer = second.answer;

@@ -1,4 +1,5 @@
 // The status register, 00.
+ghost use mathlib.Core.Path.{_≡_};
 ghost use Rattle.bus.specs.Lent.{does};
 ghost use Rattle.bus.specs.Raw.{asRaw};
 ghost use Rattle.commands.specs.Answers.{asStat};
@@ -8,7 +9,6 @@ use crate::register::ByteAnswer;
 use bq769x0::BQ769x0;
 use bus::Cursor;
 use bus::link::Raw;
-use bus::link::RawAnswer;
 use refusals::Error;
 use units::flags::Stat;
 use units::flags::SysStat;
@@ -26,7 +26,11 @@ pub struct StatRead {
 pub fn sys_stat(device: BQ769x0, tape: &[u8], log: &mut [u8], at: Cursor) -> StatRead
     ensures { λ r. ⌜ does (sysStat device) tape log at (asStat (r .answer)) (r .at) ⌝ }
 {
-    let read = register::read_register(device, 0x00, tape, log, at);
+    if !device.is_sound() {
+        return refuse_stat(Error::BadDevice, at);
+    }
+    let link = device.link;
+    let read = register::read_register(link, 0x00, tape, log, at);
     let answer = read.answer;
     let next = read.at;
     match answer {
@@ -34,10 +38,16 @@ pub fn sys_stat(device: BQ769x0, tape: &[u8], log: &mut [u8], at: Cursor) -> Sta
             answer: StatAnswer::Status(Stat { bits: byte }),
             at: next,
         },
-        ByteAnswer::Refused(e) => StatRead {
-            answer: StatAnswer::Refused(e),
-            at: next,
-        },
+        ByteAnswer::Refused(e) => refuse_stat(e, next),
+    }
+}
+
+fn refuse_stat(e: Error, at: Cursor) -> StatRead
+    ensures { λ r. ⌜ (r .answer ≡ StatAnswer.Refused e) × (r .at ≡ at) ⌝ }
+{
+    StatRead {
+        answer: StatAnswer::Refused(e),
+        at,
     }
 }
 
@@ -52,16 +62,10 @@ pub fn sys_stat_reset(
     ensures { λ r. ⌜ does (sysStatReset device flags) tape log at (asRaw (r .answer)) (r .at) ⌝ }
 {
     if !device.is_sound() {
-        return Raw {
-            answer: RawAnswer::Refused(Error::BadDevice),
-            at,
-        };
+        return register::refuse(Error::BadDevice, at);
     }
     if flags.has_reserved() {
-        return Raw {
-            answer: RawAnswer::Refused(Error::UnknownFlags),
-            at,
-        };
+        return register::refuse(Error::UnknownFlags, at);
     }
     let reset = [flags.bits];
     let link = device.link;

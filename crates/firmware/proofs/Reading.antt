@@ -1,6 +1,6 @@
 -- A cell reading after an init, by either list, where init's outcome, the room and the reading's outcome are known.
 -- Assumes nothing.
-use mathlib.Core.Path.{_≡_, refl, sym, ap, subst⁻¹, _∙_}
+use mathlib.Core.Path.{_≡_, refl, sym, ap, ap₂, subst⁻¹, _∙_}
 use mathlib.Core.Bool.{true, false}
 use mathlib.Core.List.{List, [], map, map-id, map-map}
 use Prim.Native.Nat.{ℕ, _≤_}
@@ -14,9 +14,10 @@ use Rattle.bus.specs.Transfers.{Bus, busOf}
 use Rattle.bus.specs.Raw.{Done, asRaw}
 use Rattle.bus.specs.Programs.{Prog, ret, Ran, ran, onTape, bind, _orLeave_, _>>=_}
 use Rattle.bus.proofs.Programs.{onTape-bind, pure-on, pure-off}
-use Rattle.bq769x0.specs.Record.{Left, leaves}
+use Rattle.bq769x0.specs.Record.{unread, withHead, Left, leaves}
 use Rattle.bq769x0.specs.declared.BQ769x0.{BQ769x0}
 use Rattle.setup.specs.declared.left.Init.{Init}
+use Rattle.setup.specs.declared.left.SetUp.{SetUp}
 use Rattle.laws.specs.Over.{_over_}
 use Rattle.moves.specs.Moves.{volts, firstCells}
 use Rattle.procedure.specs.Cells.{filled, cellVoltages}
@@ -32,16 +33,16 @@ bound : {A B : Type 0} (p : Prog A) (f : A → Prog B) (b : Bus) {a : A} {b′ :
     → record { answer = a; bus = b′ } ≡ onTape p b → onTape (bind p f) b ≡ onTape (f a) b′
 bound {A} p f b e = onTape-bind p f b ∙ ap (λ (r : Ran A). onTape (f (r .answer)) (r .bus)) (sym e)
 
--- ---- the init of a job, and what goes on from its answer
-pub after-init : {B : Type 0} (go : BQ769x0 → Answer Values → Prog B) (bytes : List ℕ) (b : Bus) (done : Init)
+-- ---- the init of a job, and what goes on from its answer with the record of its head
+pub after-set-up : {B : Type 0} (go : BQ769x0 → Answer Values → Prog B) (bytes : List ℕ) (b : Bus) (done : SetUp)
     → {log : List ℕ}
-    → ran (leaves (asInit (done .answer)) (done .device)) (b .tape) log (done .at) ≡ onTape (jobInit bytes) b
-    → {y : Answer Values} → asInit (done .answer) ≡ y
+    → ran (leaves (asInit (done .answer)) (withHead (done .head) unread)) (b .tape) log (done .at) ≡ onTape (jobInit bytes) b
+    → {d : BQ769x0} → d ≡ withHead (done .head) unread → {y : Answer Values} → asInit (done .answer) ≡ y
     → onTape (bind (jobInit bytes) λ (left : Left Values). go (left .device) (left .answer)) b
-    ≡ onTape (go (done .device) y) (busOf (b .tape) log (done .at))
-after-init go bytes b done {log} came t =
+    ≡ onTape (go d y) (busOf (b .tape) log (done .at))
+after-set-up go bytes b done {log} came made t =
     bound (jobInit bytes) _ b came
-    ∙ ap (λ (y : Answer Values). onTape (go (done .device) y) (busOf (b .tape) log (done .at))) t
+    ∙ ap₂ (λ (d : BQ769x0) (y : Answer Values). onTape (go d y) (busOf (b .tape) log (done .at))) (sym made) t
 
 -- ---- the test for room, then a reading, whatever is given of it
 module _ {A F : Type 0} (n : ℕ) (list : List ℕ) (leave : Refusal → A) (p : Prog F) (give : F → A) (b : Bus) where

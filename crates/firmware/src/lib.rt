@@ -12,6 +12,7 @@ ghost use Rattle.firmware.specs.CellOn.{found, foundFor};
 ghost use Rattle.wiring.specs.Questions.{cellOn};
 use crate::crate_list::read_cells;
 use crate::wired::read_wired;
+use bq769x0::BQ769x0;
 use layout::lay_out;
 use plan::InitAnswer;
 use setup::left::Init;
@@ -28,7 +29,7 @@ pub extern "C" fn bq769x0_init(job: &[u8], tape: &[u8], log: &mut [u8], out: &mu
     ensures { λ r. ⌜ handed r (now (out .exit)) (now (log .exit))
         ≡ asC (onTape (jobInit (now (job .entry))) (lentBus tape log start)) ⌝ }
 {
-    let done = job_setup::init(job, tape, log);
+    let done = job_setup::set_up(job, tape, log);
     let answer = done.answer;
     let at = done.at;
     lay_out(out, at, answer.in_numbers());
@@ -40,9 +41,9 @@ pub fn init_cells(job: &[u8], tape: &[u8], log: &mut [u8], list: &mut [u8]) -> I
     ensures { λ r. ⌜ does (jobCells (now (job .entry)) (now (list .entry))) tape log start
         (listed (asInit (r .answer)) (r .device) (now (list .exit))) (r .at) ⌝ }
 {
-    let done = job_setup::init(job, tape, log);
+    let done = job_setup::set_up(job, tape, log);
     let answer = done.answer;
-    let device = done.device;
+    let device = BQ769x0::of_head(done.head);
     let at = done.at;
     let InitAnswer::Ready(values) = answer else {
         return Init { answer, device, at };
@@ -80,9 +81,9 @@ pub fn init_wired(
     ensures { λ r. ⌜ does (jobWired (now (job .entry)) (now (inputs .entry)) (now (list .entry))) tape log start
         (beside (asInit (r .answer)) (r .device) (now (inputs .exit)) (now (list .exit))) (r .at) ⌝ }
 {
-    let done = job_setup::init(job, tape, log);
+    let done = job_setup::set_up(job, tape, log);
     let answer = done.answer;
-    let device = done.device;
+    let device = BQ769x0::of_head(done.head);
     let at = done.at;
     let InitAnswer::Ready(values) = answer else {
         return Init { answer, device, at };

@@ -57,55 +57,57 @@ impl JobAnswer {
     }
 }
 
-// By their codes from 0.
-const SCD_DELAYS: [SCDDelay; 4] = [
-    SCDDelay::_70uS,
-    SCDDelay::_100uS,
-    SCDDelay::_200uS,
-    SCDDelay::_400uS,
-];
-
-const OCD_DELAYS: [OCDDelay; 8] = [
-    OCDDelay::_8ms,
-    OCDDelay::_20ms,
-    OCDDelay::_40ms,
-    OCDDelay::_80ms,
-    OCDDelay::_160ms,
-    OCDDelay::_320ms,
-    OCDDelay::_640ms,
-    OCDDelay::_1280ms,
-];
-
-const UV_DELAYS: [UVDelay; 4] = [UVDelay::_1s, UVDelay::_4s, UVDelay::_8s, UVDelay::_16s];
-
-const OV_DELAYS: [OVDelay; 4] = [OVDelay::_1s, OVDelay::_4s, OVDelay::_8s, OVDelay::_16s];
-
+// The delay of each list by its code: asked of codes in the list only.
 fn scd_delay(code: u8) -> SCDDelay
     requires { ⌜ code < 4 ⌝ }
     ensures { λ r. ⌜ r ≡ scdAt code ⌝ }
 {
-    SCD_DELAYS[code as usize]
+    match code {
+        0 => SCDDelay::_70uS,
+        1 => SCDDelay::_100uS,
+        2 => SCDDelay::_200uS,
+        _ => SCDDelay::_400uS,
+    }
 }
 
 fn ocd_delay(code: u8) -> OCDDelay
     requires { ⌜ code < 8 ⌝ }
     ensures { λ r. ⌜ r ≡ ocdAt code ⌝ }
 {
-    OCD_DELAYS[code as usize]
+    match code {
+        0 => OCDDelay::_8ms,
+        1 => OCDDelay::_20ms,
+        2 => OCDDelay::_40ms,
+        3 => OCDDelay::_80ms,
+        4 => OCDDelay::_160ms,
+        5 => OCDDelay::_320ms,
+        6 => OCDDelay::_640ms,
+        _ => OCDDelay::_1280ms,
+    }
 }
 
 fn uv_delay(code: u8) -> UVDelay
     requires { ⌜ code < 4 ⌝ }
     ensures { λ r. ⌜ r ≡ uvAt code ⌝ }
 {
-    UV_DELAYS[code as usize]
+    match code {
+        0 => UVDelay::_1s,
+        1 => UVDelay::_4s,
+        2 => UVDelay::_8s,
+        _ => UVDelay::_16s,
+    }
 }
 
 fn ov_delay(code: u8) -> OVDelay
     requires { ⌜ code < 4 ⌝ }
     ensures { λ r. ⌜ r ≡ ovAt code ⌝ }
 {
-    OV_DELAYS[code as usize]
+    match code {
+        0 => OVDelay::_1s,
+        1 => OVDelay::_4s,
+        2 => OVDelay::_8s,
+        _ => OVDelay::_16s,
+    }
 }
 
 fn number_at(job: &[u8], at: usize) -> u32

@@ -17,8 +17,10 @@ use Rattle.bus.specs.Programs.{Ran, onTape}
 use Rattle.bus.specs.Raw.{Done}
 use Rattle.bus.proofs.Programs.{pure-on, pure-off}
 use Rattle.bq769x0.specs.Record.{Left, leaves, leaving, deviceFor, fresh, madeBy, newFor}
-use Rattle.procedure.specs.Init.{initBy}
 use Rattle.bq769x0.specs.declared.BQ769x0.{BQ769x0}
+use Rattle.bq769x0.proofs.Keeps.{new-sound}
+use Rattle.bq769x0.proofs.Soundly.{sound-on}
+use Rattle.procedure.specs.Init.{setUp, initBy}
 use Rattle.job_setup.specs.JobInit.{noDevice, madeOf, deviceMade, jobInit}
 
 made-is : (asked : Device) {a z : Answer Done} {d : BQ769x0}
@@ -57,15 +59,15 @@ module _ (bytes : List ℕ) (b : Bus) where
   -- and where they are one, by the answer `a` to the making of its device
   pub record Made (job : Job) (a : Answer Done) (d : BQ769x0) : Type 0 where
     pub off : {r : Refusal} → a ≡ refused r → whole ≡ record { answer = leaving d r; bus = b }
-    pub on : a ≡ value tt → whole ≡ onTape (initBy stepsFor d (job .config)) b
+    pub on : a ≡ value tt → whole ≡ onTape (setUp stepsFor d (job .config)) b
 
   pub made : {y : Answer Job} → y ≡ jobOf bytes → {job : Job} → y ≡ value job → {a : Answer Done} {d : BQ769x0}
       → leaves a d ≡ newFor (job .device .x) (job .device .address) (job .device .cells) (job .device .check)
       → Made job a d
-  unfolding jobInit
+  unfolding jobInit initBy
   made parsed wanted new =
       let found = pure-on _ _ _ _ _ (sym parsed ∙ wanted) in
       record {
         off = λ t. rw (unmade _ _ _ _ _ new t) (found ∙ pure-off _ _ _ _ _ (made-is _ new t));
-        on = λ t. found ∙ pure-on _ _ _ _ _ (made-is _ new t);
+        on = λ t. found ∙ pure-on _ _ _ _ _ (made-is _ new t) ∙ sound-on _ _ _ _ (new-sound _ _ _ _ new t);
       }

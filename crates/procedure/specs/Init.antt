@@ -36,8 +36,12 @@ protect config steps d = do
   _ ← writeRaw (d .link) 0x06 (plan .regs) orLeave leaving d
   startCounter (withShunt d (config .shunt)) (plan .values)
 
--- whatever way the steps are chosen
-unfoldable pub initBy : (Config → Answer InMv) → BQ769x0 → Config → Prog (Left Values)
-initBy choose d config = soundly d (leaving d nine) (do
+-- a sound record set up, whatever way the steps are chosen
+abbrev pub setUp : (Config → Answer InMv) → BQ769x0 → Config → Prog (Left Values)
+setUp choose d config = do
   steps ← ret (choose config) orLeave leaving d
-  bind (calibrate d) (onward (protect config steps)))
+  bind (calibrate d) (onward (protect config steps))
+
+-- and 9 where it is not sound
+unfoldable pub initBy : (Config → Answer InMv) → BQ769x0 → Config → Prog (Left Values)
+initBy choose d config = soundly d (leaving d nine) (setUp choose d config)

@@ -1,14 +1,14 @@
 -- A transfer that was made, or not, from what the tape said to it: its outcome, and tape and log after it.
 -- Assumes nothing.
 use mathlib.Core.Path.{_≡_, refl, sym, ap, subst, _∙_}
-use mathlib.Core.Bool.{Bool, true, false, _&&_}
+use mathlib.Core.Bool.{Bool, true, false}
 use Prim.Native.Nat.{ℕ, suc, _+_, _-_, _≤_}
 use mathlib.Core.List.{List, []}
 use native.Mathlib.Omega.{arith}
 use lib.ListN.{length, take, drop, length-drop}
 use lib.Seq.{drop-drop, length-take-le}
 use lib.Dec.{T, leb}
-use borrow.Author.Tests.{leb-true}
+use borrow.Author.Tests.{leb-true, le-leb}
 use Rattle.refusals.specs.Refusal.{Refusal, no, asRefusal}
 use Rattle.refusals.specs.declared.Error.{Error}
 use Rattle.frames.specs.Put.{put}
@@ -41,15 +41,11 @@ abbrev pub Replied : Transfer → Bus → Reply → Type 0
 Replied t b r = Heard (wanted t) (drop (b .at .tape) (b .tape)) (outcome t b) r
 
 -- so where the log has room and the tape says that all was done
-pub well : (t : Transfer) (b : Bus) (room done : Bool)
-    → room ≡ leb (b .at .log + length (logField t)) (length (b .log))
-    → (done ≡ true → Heard (wanted t) (drop (b .at .tape) (b .tape))
-    (says (wanted t) (drop (b .at .tape) (b .tape))) (Made false (wanted t)))
-    → room && done ≡ true → Replied t b (Made false (wanted t))
+pub well : (t : Transfer) (b : Bus) → b .at .log + length (logField t) ≤ length (b .log)
+    → Heard (wanted t) (drop (b .at .tape) (b .tape)) (says (wanted t) (drop (b .at .tape) (b .tape))) (Made false (wanted t))
+    → Replied t b (Made false (wanted t))
 unfolding outcome answered
-well t b true true r d e = rw (sym r) (d refl)
-well t b true false r d e = absurd (subst T (sym e) tt)
-well t b false done r d e = absurd (subst T (sym e) tt)
+well t b room done = rw (le-leb _ _ room) done
 
 module _ (t : Transfer) (b : Bus) where
   abbrev from : ℕ

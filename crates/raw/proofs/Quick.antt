@@ -24,7 +24,7 @@ use Rattle.bus.specs.Raw.{Done, sound, refuses, Read, gives, readRaw, askBack, 
 use Rattle.bus.specs.declared.Cursor.{Cursor}
 use Rattle.bus.specs.declared.link.Link.{Link}
 use Rattle.bus.proofs.Raws.{checked-goes, read-checked, read-plain, send-goes, write-done, write-back}
-use Rattle.raw.specs.Replies.{answerTo, taken, onward, ReadBy, WrittenBy, GotBy, SentBy}
+use Rattle.raw.specs.Replies.{answerTo, taken, onward, ReadBy, WrittenBy, GotBy, SentBy, EchoedBy}
 use Rattle.raw.specs.declared.transfer.Moved.{Moved}
 use Rattle.raw.specs.declared.transfer.Reply.{Reply}
 use Rattle.raw.specs.declared.transfer.Reply.the-variants.{Made, Stopped}
@@ -52,6 +52,15 @@ module _ (t : Transfer) (b : Bus) (n : ℕ) (log′ : List ℕ) where
   pub not-sent : (r : Bool) → r ≡ false → SentBy t b n r log′ → log′ ≡ b .log
   not-sent true e g = absurd (subst T e tt)
   not-sent false e g = g
+
+module _ (t u : Transfer) (b : Bus) (n : ℕ) (back back′ log′ : List ℕ) where
+  pub is-echoed : (r : Bool) → r ≡ true → EchoedBy t u b n back r back′ log′ → EchoedBy t u b n back true back′ log′
+  is-echoed true e g = g
+  is-echoed false e g = absurd (subst T (sym e) tt)
+
+  pub not-echoed : (r : Bool) → r ≡ false → EchoedBy t u b n back r back′ log′ → log′ ≡ b .log
+  not-echoed true e g = absurd (subst T e tt)
+  not-echoed false e g = g .1
 
 -- ---- nothing touched: the program is done from the same bus
 pub from-same : {A : Type 0} (p : Prog A) (b : Bus) {log′ : List ℕ} {x : Ran A} → log′ ≡ b .log

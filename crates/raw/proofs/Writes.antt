@@ -4,6 +4,7 @@ use mathlib.Core.Path.{_≡_, refl, sym, ap, _∙_}
 use mathlib.Core.Bool.{Bool, true, false}
 use Prim.Native.Nat.{ℕ, _+_, _*_, _%_, _≤_}
 use mathlib.Core.List.{List, [], _∷_}
+use native.Mathlib.Nat.{add-assoc}
 use native.Mathlib.Omega.{arith}
 use lib.ListN.{length, getD, drop-of-length-le}
 use lib.Seq.{drop-cons}
@@ -13,10 +14,10 @@ use Rattle.frames.specs.Frames.{checked, framed, writeFrame}
 use Rattle.frames.proofs.Steps.{shifted}
 use Rattle.bus.specs.Transfers.{read, write, Bus, busOf}
 use Rattle.bus.specs.Programs.{Ran, ran, onTape}
-use Rattle.bus.specs.Raw.{Done, sound, compared, askBack, writeRaw}
+use Rattle.bus.specs.Raw.{Done, sound, compared, writeRaw}
 use Rattle.bus.specs.declared.Cursor.{Cursor}
 use Rattle.bus.specs.declared.link.Link.{Link}
-use Rattle.raw.specs.Replies.{onward, GotBy, SentBy}
+use Rattle.raw.specs.Replies.{onward, SentBy, EchoedBy}
 use Rattle.raw.proofs.Asked.{back-on}
 use Rattle.raw.proofs.Quick.{from-same, sent-well, sent-back}
 
@@ -60,15 +61,6 @@ module _ (address reg : ℕ) where
   unfolding writeFrame framed
   plain-frame bytes = refl
 
--- ---- read back by the short way
-pub back-well : (address reg : ℕ) (bytes : List ℕ) (b : Bus) (back : List ℕ) {back′ log′ : List ℕ} {x : Answer Done} {at : Cursor}
-    → length back ≡ length bytes → length back′ ≡ length back
-    → GotBy (read address reg (length back)) b back true back′ log′
-    → x ≡ compared reg bytes back′ → at ≡ onward (b .at) (3 + length back) 7
-    → ran x (b .tape) log′ at ≡ onTape (askBack address reg bytes) b
-back-well address reg bytes b back {back′} {log′} same kept g e f =
-    rw (e, f) (back-on address reg bytes b back same _ back′ log′ kept (g .0) refl)
-
 -- ---- written by the short way, or by the long way with nothing touched before
 -- `held` is what the code has of the bytes
 module _ (s : Link) (reg : ℕ) (bytes held : List ℕ) (b : Bus) (same : bytes ≡ held) where
@@ -79,10 +71,8 @@ module _ (s : Link) (reg : ℕ) (bytes held : List ℕ) (b : Bus) (same : bytes 
       → x ≡ onTape (writeRaw s reg held) (busOf (b .tape) log′ (b .at)) → x ≡ onTape (writeRaw s reg bytes) b
   write-long e w = from-same (writeRaw s reg held) b e w ∙ as-given
 
-  module _ (frame : List ℕ) {log′ : List ℕ} {n : ℕ} {at : Cursor} (ok : sound s ≡ true)
-      (some : 1 ≤ length held) (few : length held ≤ 8) (within : reg + length held ≤ 256)
-      (sent : SentBy (write (s .address) frame) b (length frame) true log′)
-      (size : 4 + length frame ≡ n) (next : at ≡ onward (b .at) 3 n) where
+  module _ (frame : List ℕ) (ok : sound s ≡ true)
+      (some : 1 ≤ length held) (few : length held ≤ 8) (within : reg + length held ≤ 256) where
     not-none : length held ≡ 0 → ⊥
     not-none z = omega arith
 
@@ -90,16 +80,22 @@ module _ (s : Link) (reg : ℕ) (bytes held : List ℕ) (b : Bus) (same : bytes 
         → frame ≡ writeFrame (s .check) (s .address) reg held
     framed-as c is = is ∙ ap (λ (k : Bool). writeFrame k (s .address) reg held) (sym c)
 
-    pub write-checked : s .check ≡ true → frame ≡ writeFrame true (s .address) reg held
+    pub write-checked : {log′ : List ℕ} {n : ℕ} {at : Cursor} → s .check ≡ true → frame ≡ writeFrame true (s .address) reg held
+        → SentBy (write (s .address) frame) b (length frame) true log′
+        → 4 + length frame ≡ n → at ≡ onward (b .at) 3 n
         → ran (value tt) (b .tape) log′ at ≡ onTape (writeRaw s reg bytes) b
-    write-checked c is =
+    write-checked c is sent size next =
         rw (next, ← size) (sent-well s reg held frame b ok few not-none within (framed-as c is) sent c) ∙ as-given
 
-    pub write-plain : {x : Ran (Answer Done)} → s .check ≡ false → frame ≡ writeFrame false (s .address) reg held
-        → x ≡ onTape (askBack (s .address) reg held) (busOf (b .tape) log′ at) → x ≡ onTape (writeRaw s reg bytes) b
-    write-plain c is w =
-        w
-        ∙ ap (λ (k : Cursor). onTape (askBack (s .address) reg held) (busOf (b .tape) log′ k))
-        (next ∙ ap (onward (b .at) 3) (sym size))
+    -- without checks what was written is read back and compared
+    pub write-plain : {back back′ log′ : List ℕ} {x : Answer Done} {at : Cursor} → s .check ≡ false
+        → frame ≡ writeFrame false (s .address) reg held
+        → EchoedBy (write (s .address) frame) (read (s .address) reg (length back)) b (length frame) back true back′ log′
+        → length back ≡ length held → length back′ ≡ length back
+        → x ≡ compared reg held back′ → at ≡ onward (b .at) (3 + (3 + length back)) (4 + length frame + 7)
+        → ran x (b .tape) log′ at ≡ onTape (writeRaw s reg bytes) b
+    write-plain {back} {back′} {log′} c is (sent, back-read, reaches) size kept e next =
+        rw (e, next, ← add-assoc (b .at .tape) 3 (3 + length back), ← add-assoc (b .at .log) (4 + length frame) 7)
+        (back-on (s .address) reg held _ back size _ back′ log′ kept back-read refl)
         ∙ sent-back s reg held frame b ok few not-none within (framed-as c is) sent c
         ∙ as-given

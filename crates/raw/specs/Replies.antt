@@ -11,7 +11,7 @@ use Rattle.refusals.specs.declared.Error.the-variants as E
 use Rattle.frames.specs.Frames.{dataOf}
 use Rattle.frames.specs.Put.{put}
 use Rattle.laws.specs.Choice.{if_then_else_}
-use Rattle.bus.specs.Transfers.{Transfer, Outcome, done, fault, stopped, Bus, busOf, outcome, after}
+use Rattle.bus.specs.Transfers.{Transfer, Outcome, done, fault, stopped, Bus, busOf, logField, outcome, after}
 use Rattle.bus.specs.Raw.{Done, refuses, Read, gives, whereRight}
 use Rattle.bus.specs.declared.Cursor.{Cursor}
 use Rattle.raw.specs.declared.transfer.Moved.{Moved}
@@ -71,11 +71,14 @@ onward at tape log = record { tape = at .tape + tape; log = at .log + log }
 abbrev pub Reaches : Bus → ℕ → ℕ → Type 0
 Reaches b tape log = (b .at .tape + tape ≤ length (b .tape)) × (b .at .log + log ≤ length (b .log))
 
--- a read by the short way: done, with all that it wants, or nothing touched
-abbrev pub GotBy : Transfer → Bus → List ℕ → Bool → List ℕ → List ℕ → Type 0
-GotBy t b buf true buf′ log′ =
+-- a read that is done, with all that it wants
+abbrev pub ReadWhole : Transfer → Bus → List ℕ → List ℕ → List ℕ → Type 0
+ReadWhole t b buf buf′ log′ =
     ReadBy t b buf (record { reply = Made false (length buf); at = onward (b .at) (3 + length buf) 7 }) buf′ log′
-    × Reaches b (3 + length buf) 7
+
+-- a read by the short way: done, or nothing touched
+abbrev pub GotBy : Transfer → Bus → List ℕ → Bool → List ℕ → List ℕ → Type 0
+GotBy t b buf true buf′ log′ = ReadWhole t b buf buf′ log′ × Reaches b (3 + length buf) 7
 GotBy t b buf false buf′ log′ = (buf′ ≡ buf) × (log′ ≡ b .log)
 
 -- so of a write of so many bytes
@@ -83,6 +86,15 @@ abbrev pub SentBy : Transfer → Bus → ℕ → Bool → List ℕ → Type 0
 SentBy t b n true log′ =
     WrittenBy t b (record { reply = Made false 0; at = onward (b .at) 3 (4 + n) }) log′ × Reaches b 3 (4 + n)
 SentBy t b n false log′ = log′ ≡ b .log
+
+-- so of a write `t` and a read `u` after it
+abbrev pub EchoedBy : Transfer → Transfer → Bus → ℕ → List ℕ → Bool → List ℕ → List ℕ → Type 0
+EchoedBy t u b n back true back′ log′ =
+    let logged = put (b .log) (b .at .log) (logField t) in
+    SentBy t b n true logged
+    × ReadWhole u (busOf (b .tape) logged (onward (b .at) 3 (4 + n))) back back′ log′
+    × Reaches b (3 + (3 + length back)) (4 + n + 7)
+EchoedBy t u b n back false back′ log′ = (back′ ≡ back) × (log′ ≡ b .log)
 
 -- a reply as an answer: a fault is 2
 abbrev pub answerTo : Reply → Answer Done

@@ -84,22 +84,23 @@ pub fn read_raw(
 {
     let address = link.address;
     let n = data.len();
-    let sound = link.is_sound() & (reg_address as usize + n <= 256);
-    let framed = link.check & (n != 0) & (n <= 2 * (link.x as usize));
-    if sound & framed {
-        let mut frame = [0u8; 66];
-        if well::got(address, reg_address, &mut frame[..2 * n], tape, log, at) {
-            return Raw {
-                answer: take_frame(address, &frame, false, data),
-                at: further(at, 3 + 2 * n, 7),
-            };
-        }
-    } else if sound & !link.check {
-        if well::got(address, reg_address, data, tape, log, at) {
-            return Raw {
-                answer: RawAnswer::Done,
-                at: further(at, 3 + n, 7),
-            };
+    let x = link.x as usize;
+    if link.is_sound() & (reg_address as usize + n <= 256) {
+        if !link.check {
+            if well::got(address, reg_address, data, tape, log, at) {
+                return Raw {
+                    answer: RawAnswer::Done,
+                    at: further(at, 3 + n, 7),
+                };
+            }
+        } else if (n != 0) & (n <= 2 * x) {
+            let mut frame = [0u8; 66];
+            if well::got(address, reg_address, &mut frame[..2 * n], tape, log, at) {
+                return Raw {
+                    answer: take_frame(address, &frame, false, data),
+                    at: further(at, 3 + 2 * n, 7),
+                };
+            }
         }
     }
     long::read_long(link, reg_address, data, tape, log, at)

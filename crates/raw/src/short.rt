@@ -1,7 +1,7 @@
 // One register read, two read, and one and six written, each as `read_raw` and `write_raw` do it for that count: by the short way of
 // `well` where it can be gone, else by the long way from the start. A field of the tape has three bytes ahead of its value; a read's
-// field in the log has seven, a write's four and its frame. What the long way is lent is held apart, so that the compiler need not keep
-// the caller's bytes in memory for it.
+// field in the log has seven, a write's four and its frame. What the long way is lent is held apart, and what it answers to a write
+// is taken apart, so that the compiler need not keep the short way's in memory for it.
 ghost use mathlib.Core.Path.{_≡_};
 ghost use mathlib.Core.Bool.{true, false};
 ghost use Prim.Native.Nat.{_+_, _^_, _≤_, _<_};
@@ -150,25 +150,18 @@ pub fn write_one(
         }
     } else if sound {
         let frame = [reg, held[0]];
-        if well::sent(address, &frame, tape, log, at) {
-            return back_one(address, reg, held, tape, log, further(at, 3, 6));
+        let mut back = [0u8; 1];
+        if well::echoed(address, reg, &frame, &mut back, tape, log, at) {
+            return Raw {
+                answer: crate::compare(reg, &held, &back),
+                at: further(at, 7, 13),
+            };
         }
     }
-    crate::write_raw(link, reg, &held, tape, log, at)
-}
-
-fn back_one(address: u8, reg: u8, data: [u8; 1], tape: &[u8], log: &mut [u8], at: Cursor) -> Raw
-    requires { ⌜ reg + 1 ≤ 256 ⌝ }
-    ensures { λ r. ⌜ does (askBack address reg «data») tape log at (asRaw (r .answer)) (r .at) ⌝ }
-{
-    let mut back = [0u8; 1];
-    if !well::got(address, reg, &mut back, tape, log, at) {
-        return crate::verify(address, reg, &data, tape, log, at);
-    }
-    Raw {
-        answer: crate::compare(reg, &data, &back),
-        at: further(at, 4, 7),
-    }
+    let wrote = crate::write_raw(link, reg, &held, tape, log, at);
+    let answer = wrote.answer;
+    let next = wrote.at;
+    Raw { answer, at: next }
 }
 
 pub fn write_six(
@@ -195,25 +188,18 @@ pub fn write_six(
         }
     } else if sound {
         let frame = [reg, held[0], held[1], held[2], held[3], held[4], held[5]];
-        if well::sent(address, &frame, tape, log, at) {
-            return back_six(address, reg, held, tape, log, further(at, 3, 11));
+        let mut back = [0u8; 6];
+        if well::echoed(address, reg, &frame, &mut back, tape, log, at) {
+            return Raw {
+                answer: crate::compare(reg, &held, &back),
+                at: further(at, 12, 18),
+            };
         }
     }
-    crate::write_raw(link, reg, &held, tape, log, at)
-}
-
-fn back_six(address: u8, reg: u8, data: [u8; 6], tape: &[u8], log: &mut [u8], at: Cursor) -> Raw
-    requires { ⌜ reg + 6 ≤ 256 ⌝ }
-    ensures { λ r. ⌜ does (askBack address reg «data») tape log at (asRaw (r .answer)) (r .at) ⌝ }
-{
-    let mut back = [0u8; 6];
-    if !well::got(address, reg, &mut back, tape, log, at) {
-        return crate::verify(address, reg, &data, tape, log, at);
-    }
-    Raw {
-        answer: crate::compare(reg, &data, &back),
-        at: further(at, 9, 7),
-    }
+    let wrote = crate::write_raw(link, reg, &held, tape, log, at);
+    let answer = wrote.answer;
+    let next = wrote.at;
+    Raw { answer, at: next }
 }
 
 // The frame of a write of six bytes with their check bytes.

@@ -9,10 +9,12 @@ use Rattle.bus.specs.Transfers.{Bus}
 use Rattle.bus.specs.Programs.{Prog, ran, onTape}
 use Rattle.bus.specs.Raw.{Done, asRaw}
 use Rattle.bus.proofs.Agree.{raw-agree}
-use Rattle.bq769x0.specs.Record.{Left, leaves}
-use Rattle.bq769x0.proofs.Agree.{left-agree}
+use Rattle.bq769x0.specs.Record.{withHead, Left, leaves}
+use Rattle.bq769x0.specs.declared.Readings.{Readings}
+use Rattle.bq769x0.proofs.Agree.{head-agree, left-agree}
 use Rattle.setup.specs.declared.left.Calibrated.{Calibrated}
 use Rattle.setup.specs.declared.left.Init.{Init}
+use Rattle.setup.specs.declared.left.SetUp.{SetUp}
 
 -- `read_adc_characteristics`
 pub calibrated-agree : (p : Prog (Left Done)) (b : Bus) (r r′ : Calibrated) (log log′ : List ℕ)
@@ -33,3 +35,16 @@ init-agree p b r r′ log log′ e e′ =
     let same = left-agree p b (asInit (r .answer)) (asInit (r′ .answer)) (r .device) (r′ .device) log log′ (r .at) (r′ .at) e e′ in
     let a = answer-agree (r .answer) (r′ .answer) (same .0) in
     (λ i. record { answer = a i; device = same .1 i; at = same .2 i }, same .3)
+
+-- `set_up`, on a record of any readings
+pub set-up-agree : (p : Prog (Left Values)) (b : Bus) (readings : Readings) (r r′ : SetUp) (log log′ : List ℕ)
+    → ran (leaves (asInit (r .answer)) (withHead (r .head) readings)) (b .tape) log (r .at) ≡ onTape p b
+    → ran (leaves (asInit (r′ .answer)) (withHead (r′ .head) readings)) (b .tape) log′ (r′ .at) ≡ onTape p b
+    → (r ≡ r′) × (log ≡ log′)
+set-up-agree p b readings r r′ log log′ e e′ =
+    let same =
+    left-agree p b (asInit (r .answer)) (asInit (r′ .answer)) (withHead (r .head) readings) (withHead (r′ .head) readings)
+    log log′ (r .at) (r′ .at) e e′ in
+    let a = answer-agree (r .answer) (r′ .answer) (same .0) in
+    let h = head-agree (r .head) (r′ .head) readings (same .1) in
+    (λ i. record { answer = a i; head = h i; at = same .2 i }, same .3)

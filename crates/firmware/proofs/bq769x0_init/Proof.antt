@@ -9,12 +9,12 @@ use Rattle.firmware.proofs.bq769x0_init.Tie as tie
 abbrev at-laid : tie.After-number → tie.After-lay-out-arg
 at-laid c = c .before .before .before
 
-abbrev at-init : tie.After-lay-out-arg → tie.After-init
-at-init c = c .before .before .before .before
+abbrev at-set-up : tie.After-lay-out-arg → tie.After-set-up
+at-set-up c = c .before .before .before .before
 
 -- ---- the needs
-init-requires : tie.Need-init-requires
-init-requires c κs = search needs
+set-up-requires : tie.Need-set-up-requires
+set-up-requires c κs = search needs
 
 in-numbers-requires : tie.Need-in-numbers-requires
 in-numbers-requires c κs = search needs
@@ -31,9 +31,9 @@ same-length c = search needs
 returns : tie.Need-returns
 returns c =
     rw (c .number .ensures, c .before .lay-out .ensures, c .before .before .in-numbers .ensures)
-    (ap asC (at-init (at-laid c) .init .ensures))
+    (ap asC (at-set-up (at-laid c) .set-up .ensures))
 
 pub bq769x0-init-spec : {M : Type 1} → statement M
 bq769x0-init-spec =
     tie.close
-    (tie.spec init-requires in-numbers-requires lay-out-requires number-requires same-length returns)
+    (tie.spec set-up-requires in-numbers-requires lay-out-requires number-requires same-length returns)

@@ -8,7 +8,7 @@ use Rattle.plan.specs.Plan.{Values, asInit}
 use Rattle.bus.specs.Transfers.{Bus, busOf, start}
 use Rattle.bus.specs.Programs.{Ran, onTape}
 use Rattle.firmware.specs.JobCells.{Listed, onlyReady, jobCells}
-use Rattle.firmware.proofs.Reading.{after-init}
+use Rattle.firmware.proofs.Reading.{after-set-up}
 use borrow.Author.Needs.{needs}
 use Rattle.firmware.proofs.init_cells.Statement.{statement}
 use Rattle.firmware.proofs.init_cells.Tie as tie
@@ -31,11 +31,11 @@ module _ (s : tie.Start) where
 abbrev at-start : tie.After-slice-known2 → tie.Start
 at-start c = c .before .before .before .before
 
-abbrev at-init : tie.After-device → tie.After-init
-at-init c = c .before .before .before
+abbrev at-set-up : tie.After-of-head → tie.After-set-up
+at-set-up c = c .before .before .before
 
-abbrev at-done : tie.After-answer → tie.After-init
-at-done c = at-init (c .before .before .before)
+abbrev at-head : tie.After-answer → tie.After-of-head
+at-head c = c .before .before .before
 
 abbrev at-answer : tie.After-read-cells → tie.After-answer
 at-answer c = c .before .before .before .before
@@ -44,20 +44,26 @@ abbrev at-read : tie.After-slice-known5 → tie.After-read-cells
 at-read c = c .before .before .before .before
 
 -- ---- after the init, by its answer
-module _ (c : tie.After-init) where
-  abbrev s : tie.Start
-  s = at-start (c .before .before)
+module _ (c : tie.After-of-head) where
+  abbrev came : tie.After-set-up
+  came = at-set-up c
 
-  left : {y : Answer Values} → asInit (c .init .result .answer) ≡ y
+  abbrev s : tie.Start
+  s = at-start (came .before .before)
+
+  left : {y : Answer Values} → asInit (came .set-up .result .answer) ≡ y
       → whole s
-      ≡ onTape (onlyReady (list s) (c .init .result .device) y)
-      (busOf (bus s .tape) (c .init .last .1 .1 .0) (c .init .result .at))
+      ≡ onTape (onlyReady (list s) (c .of-head .result) y)
+      (busOf (bus s .tape) (came .set-up .last .1 .1 .0) (came .set-up .result .at))
   unfolding jobCells
-  left = after-init (onlyReady (list s)) (job s) (bus s) (c .init .result) (c .init .ensures)
+  left = after-set-up (onlyReady (list s)) (job s) (bus s) (came .set-up .result) (came .set-up .ensures) (c .of-head .ensures)
 
 -- ---- the needs
-init-requires : tie.Need-init-requires
-init-requires c κs = search needs
+set-up-requires : tie.Need-set-up-requires
+set-up-requires c κs = search needs
+
+of-head-requires : tie.Need-of-head-requires
+of-head-requires c κs = search needs
 
 enum-known-answer : tie.Need-enum-known-answer
 enum-known-answer c = search needs
@@ -72,7 +78,7 @@ returns : tie.Need-returns
 unfolding onTape
 returns c =
     let t = ap asInit (c .enum-told .given .1) in
-    rw t (sym (left (at-init (c .before .before .before)) t))
+    rw t (sym (left (c .before .before .before) t))
 
 read-cells-requires : tie.Need-read-cells-requires
 read-cells-requires c κs = search needs
@@ -86,13 +92,14 @@ same-length-3 c = search needs
 returns-2 : tie.Need-returns-2
 returns-2 c =
     at-read c .read-cells .ensures
-    ∙ sym (left (at-done (at-answer (at-read c))) (ap asInit (at-answer (at-read c) .answer .given .1)))
+    ∙ sym (left (at-head (at-answer (at-read c))) (ap asInit (at-answer (at-read c) .answer .given .1)))
 
 pub init-cells-spec : {M : Type 1} → statement M
 init-cells-spec =
     tie.close
     (tie.spec
-    init-requires
+    set-up-requires
+    of-head-requires
     enum-known-answer
     enum-told
     same-length

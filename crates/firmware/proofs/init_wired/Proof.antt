@@ -8,7 +8,7 @@ use Rattle.plan.specs.Plan.{Values, asInit}
 use Rattle.bus.specs.Transfers.{Bus, busOf, start}
 use Rattle.bus.specs.Programs.{Ran, onTape}
 use Rattle.firmware.specs.JobWired.{Beside, onlyReady, jobWired}
-use Rattle.firmware.proofs.Reading.{after-init}
+use Rattle.firmware.proofs.Reading.{after-set-up}
 use borrow.Author.Needs.{needs}
 use Rattle.firmware.proofs.init_wired.Statement.{statement}
 use Rattle.firmware.proofs.init_wired.Tie as tie
@@ -34,11 +34,11 @@ module _ (s : tie.Start) where
 abbrev at-start : tie.After-slice-known2 → tie.Start
 at-start c = c .before .before .before .before
 
-abbrev at-init : tie.After-device → tie.After-init
-at-init c = c .before .before .before
+abbrev at-set-up : tie.After-of-head → tie.After-set-up
+at-set-up c = c .before .before .before
 
-abbrev at-done : tie.After-answer → tie.After-init
-at-done c = at-init (c .before .before .before)
+abbrev at-head : tie.After-answer → tie.After-of-head
+at-head c = c .before .before .before
 
 abbrev at-told : tie.After-read-wired → tie.After-known-told
 at-told c = c .before .before .before .before
@@ -53,20 +53,26 @@ abbrev at-read : tie.After-slice-known7 → tie.After-read-wired
 at-read c = at-inputs c .before .before
 
 -- ---- after the init, by its answer
-module _ (c : tie.After-init) where
-  abbrev s : tie.Start
-  s = at-start (c .before .before .before)
+module _ (c : tie.After-of-head) where
+  abbrev came : tie.After-set-up
+  came = at-set-up c
 
-  left : {y : Answer Values} → asInit (c .init .result .answer) ≡ y
+  abbrev s : tie.Start
+  s = at-start (came .before .before .before)
+
+  left : {y : Answer Values} → asInit (came .set-up .result .answer) ≡ y
       → whole s
-      ≡ onTape (onlyReady (inputs s) (list s) (c .init .result .device) y)
-      (busOf (bus s .tape) (c .init .last .1 .1 .0) (c .init .result .at))
+      ≡ onTape (onlyReady (inputs s) (list s) (c .of-head .result) y)
+      (busOf (bus s .tape) (came .set-up .last .1 .1 .0) (came .set-up .result .at))
   unfolding jobWired
-  left = after-init (onlyReady (inputs s) (list s)) (job s) (bus s) (c .init .result) (c .init .ensures)
+  left = after-set-up (onlyReady (inputs s) (list s)) (job s) (bus s) (came .set-up .result) (came .set-up .ensures) (c .of-head .ensures)
 
 -- ---- the needs
-init-requires : tie.Need-init-requires
-init-requires c κs = search needs
+set-up-requires : tie.Need-set-up-requires
+set-up-requires c κs = search needs
+
+of-head-requires : tie.Need-of-head-requires
+of-head-requires c κs = search needs
 
 enum-known-answer : tie.Need-enum-known-answer
 enum-known-answer c = search needs
@@ -81,7 +87,7 @@ returns : tie.Need-returns
 unfolding onTape
 returns c =
     let t = ap asInit (c .enum-told .given .1) in
-    rw t (sym (left (at-init (c .before .before .before)) t))
+    rw t (sym (left (c .before .before .before) t))
 
 read-wired-requires : tie.Need-read-wired-requires
 read-wired-requires c κs = search needs
@@ -98,13 +104,14 @@ same-length-4 c = search needs
 returns-2 : tie.Need-returns-2
 returns-2 c =
     at-read c .read-wired .ensures
-    ∙ sym (left (at-done (at-answer (at-read c))) (ap asInit (at-answer (at-read c) .answer .given .1)))
+    ∙ sym (left (at-head (at-answer (at-read c))) (ap asInit (at-answer (at-read c) .answer .given .1)))
 
 pub init-wired-spec : {M : Type 1} → statement M
 init-wired-spec =
     tie.close
     (tie.spec
-    init-requires
+    set-up-requires
+    of-head-requires
     enum-known-answer
     enum-told
     same-length

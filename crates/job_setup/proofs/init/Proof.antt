@@ -1,116 +1,22 @@
 -- `job_setup::init` meets its contract. Assumes nothing.
-use mathlib.Core.Path.{sym, ap, _∙_}
-use mathlib.Core.List.{List}
-use Prim.Native.Nat.{ℕ}
-use denote.Ref.{now}
-use Rattle.job.specs.Jobs.{asJob}
-use Rattle.bus.specs.Transfers.{Bus, busOf, start}
-use Rattle.bq769x0.specs.Record.{asMade}
-use Rattle.job_setup.proofs.Stages.{no-job, Made, made}
 use borrow.Author.Needs.{needs}
 use Rattle.job_setup.proofs.init.Statement.{statement}
 use Rattle.job_setup.proofs.init.Tie as tie
 
--- ---- what is given
-module _ (s : tie.Start) where
-  abbrev bytes : List ℕ
-  bytes = now (s .args .job)
+abbrev at-set-up : tie.After-of-head → tie.After-set-up
+at-set-up c = c .before .before .before .before
 
-  abbrev bus : Bus
-  bus = busOf (now (s .args .tape)) (now (s .args .log)) start
+set-up-requires : tie.Need-set-up-requires
+set-up-requires c κs = search needs
 
--- ---- the places, each from a later one
-abbrev at-start : tie.After-parse → tie.Start
-at-start c = c .before .before .before .before
-
-abbrev at-parse : tie.After-parsed → tie.After-parse
-at-parse c = c .before .before
-
-abbrev at-parsed : tie.After-new2 → tie.After-parsed
-at-parsed c = c .before .before .before .before
-
-abbrev at-no-job : tie.After-refusal → tie.After-enum-told
-at-no-job c = c .before .before .before
-
-abbrev at-told : tie.After-slice-known2 → tie.After-enum-told2
-at-told c = c .before .before .before .before
-
--- ---- after the device is made
-module _ (c : tie.After-new2) where
-  abbrev s : tie.Start
-  s = at-start (at-parse (at-parsed c))
-
-  after-new : Made (bytes s) (bus s)
-      (at-parsed c .parsed .given .0 .0) (asMade (c .new2 .result .answer)) (c .new2 .result .device)
-  after-new =
-      made (bytes s) (bus s) (at-parse (at-parsed c) .parse .ensures) (ap asJob (at-parsed c .parsed .given .1))
-      (c .new2 .ensures)
-
--- ---- the needs
-parse-requires : tie.Need-parse-requires
-parse-requires c κs = search needs
-
-enum-known-parsed : tie.Need-enum-known-parsed
-enum-known-parsed c = search needs
-
-enum-told : tie.Need-enum-told
-enum-told c = search needs
-
-new-requires : tie.Need-new-requires
-new-requires c κs = search needs
-
-refusal-requires : tie.Need-refusal-requires
-refusal-requires c κs = search needs
-
-returns : tie.Need-returns
-returns c =
-    let t = ap asJob (at-no-job c .enum-told .given .1) in
-    rw (c .refusal .ensures, t)
-    (sym (no-job _ _ (at-no-job c .before .before .parse .ensures) (c .before .before .new .ensures) t))
-
-new-requires-2 : tie.Need-new-requires-2
-new-requires-2 c κs = search needs
-
-enum-told-2 : tie.Need-enum-told-2
-enum-told-2 c = search needs
-
-enum-told-3 : tie.Need-enum-told-3
-enum-told-3 c = search needs
-
-refusal-requires-2 : tie.Need-refusal-requires-2
-refusal-requires-2 c κs = search needs
-
-returns-2 : tie.Need-returns-2
-returns-2 c =
-    let t = ap asMade (c .before .enum-told3 .given .1) in
-    rw (c .refusal2 .ensures, t) (sym (after-new (c .before .before .before .before) .off t))
-
-init-requires : tie.Need-init-requires
-init-requires c κs = search needs
+of-head-requires : tie.Need-of-head-requires
+of-head-requires c κs = search needs
 
 same-length : tie.Need-same-length
 same-length c = search needs
 
-returns-3 : tie.Need-returns-3
-returns-3 c =
-    c .before .before .init .ensures
-    ∙ sym (after-new (at-told c .before .before .before) .on (ap asMade (at-told c .enum-told2 .given .1)))
+returns : tie.Need-returns
+returns c = rw (c .of-head .ensures) (at-set-up c .set-up .ensures)
 
 pub init-spec : {M : Type 1} → statement M
-init-spec =
-    tie.close
-    (tie.spec
-    parse-requires
-    enum-known-parsed
-    enum-told
-    new-requires
-    refusal-requires
-    returns
-    new-requires-2
-    enum-told-2
-    enum-told-3
-    refusal-requires-2
-    returns-2
-    init-requires
-    same-length
-    returns-3)
+init-spec = tie.close (tie.spec set-up-requires of-head-requires same-length returns)

@@ -1,6 +1,6 @@
 -- `raw::read_raw` meets its contract: done by the short way, or by the long way with nothing touched before. Assumes nothing.
 use mathlib.Core.Path.{_≡_, sym, ap, subst, _∙_}
-use mathlib.Core.Bool.{Bool, true, false, not, _&&_, and-eq-true-iff}
+use mathlib.Core.Bool.{true, false, not, and-eq-true-iff}
 use mathlib.Core.Logic.{inl, inr}
 use mathlib.Core.List.{List}
 use Prim.Native.Nat.{ℕ, _+_, _*_, _^_, _≤_, _<_}
@@ -8,7 +8,7 @@ use native.Mathlib.Omega.{arith}
 use lib.ListN.{length, take, replicate}
 use lib.Seq.{length-take-le}
 use lib.Dec.{leb, eqb}
-use borrow.Author.Tests.{leb-true, eqb-false, not-true}
+use borrow.Author.Tests.{leb-true, eqb-false, not-true, not-false}
 use denote.Ref.{now}
 use Rattle.bus.specs.Transfers.{Bus, busOf, read}
 use Rattle.bus.specs.Programs.{ran, onTape}
@@ -22,12 +22,9 @@ use Rattle.raw.proofs.read_raw.Statement.{statement}
 use Rattle.raw.proofs.read_raw.Tie as tie
 
 -- ---- what is given
-module _ (c : tie.After-struct-known2) where
-  abbrev asked : tie.After-is-sound
-  asked = c .before .before
-
+module _ (c : tie.After-is-sound) where
   abbrev start : tie.Start
-  start = asked .before .before .before .before
+  start = c .before .before .before .before .before
 
   abbrev bytes : List ℕ
   bytes = now (start .args .«data»)
@@ -38,165 +35,155 @@ module _ (c : tie.After-struct-known2) where
   sizes : (length (now (start .args .tape)) < 2 ^ 64) × (length (now (start .args .log)) < 2 ^ 64)
   sizes = (omega arith, omega arith)
 
-  abbrev tested : Bool
-  tested = asked .is-sound .result && leb (start .args .reg-address + length bytes) 256
-
-  is-sound : tested ≡ true → sound (start .args .link) ≡ true
-  is-sound t = sym (asked .is-sound .ensures) ∙ and-eq-true-iff _ _ .0 t .0
-
-  within : tested ≡ true → start .args .reg-address + length bytes ≤ 256
-  within t = leb-true _ _ (and-eq-true-iff (asked .is-sound .result) _ .0 t .1)
-
 -- ---- nothing is touched where the long way begins
 untouched : (c : tie.Joined1) → c .if1 .log ≡ now (start (c .before) .args .log)
 untouched c =
     elim (c .if1 .came) [
-      | inl (if1, frame, got-arg, got, frame2, log′, known, if2, d, l) ↦ l ∙ log-kept _ _ _ _ _ _ (if2 .left) (got .ensures)
-      | inr (inl (if1, known, if3, got-arg2, got-arg3, got2, data2, known5, log2, known6, if4, d, l)) ↦
-          l ∙ log-kept _ _ _ _ _ _ (if4 .left) (got2 .ensures)
-      | inr (inr (if1, known, if3, d, l)) ↦ l
+      | inl (if1, known, if2, got-arg, got-arg2, got, data2, known3, log2, known4, if3, d, l) ↦
+          l ∙ log-kept _ _ _ _ _ _ (if3 .left) (got .ensures)
+      | inr (inl (if1, known, if2, if4, frame, got-arg3, got2, frame2, log2, known5, if5, d, l)) ↦
+          l ∙ log-kept _ _ _ _ _ _ (if5 .left) (got2 .ensures)
+      | inr (inr (inl (if1, known, if2, if4, d, l))) ↦ l
+      | inr (inr (inr (if1, d, l))) ↦ l
     ]
 
 unread : (c : tie.Joined1) → c .if1 .«data» ≡ bytes (c .before)
 unread c =
     elim (c .if1 .came) [
-      | inl (if1, frame, got-arg, got, frame2, log′, known, if2, d, l) ↦ d
-      | inr (inl (if1, known, if3, got-arg2, got-arg3, got2, data2, known5, log2, known6, if4, d, l)) ↦
-          d ∙ buf-kept _ _ _ _ _ _ (if4 .left) (got2 .ensures)
-      | inr (inr (if1, known, if3, d, l)) ↦ d
+      | inl (if1, known, if2, got-arg, got-arg2, got, data2, known3, log2, known4, if3, d, l) ↦
+          d ∙ buf-kept _ _ _ _ _ _ (if3 .left) (got .ensures)
+      | inr (inl (if1, known, if2, if4, frame, got-arg3, got2, frame2, log2, known5, if5, d, l)) ↦ d
+      | inr (inr (inl (if1, known, if2, if4, d, l))) ↦ d
+      | inr (inr (inr (if1, d, l))) ↦ d
     ]
 
--- ---- with check bytes
+-- ---- sound, and the registers within the chip's
 module _ (c : tie.Then1) where
-  abbrev k : tie.After-struct-known2
+  abbrev k : tie.After-is-sound
   k = c .before
 
   abbrev n : ℕ
   n = length (bytes k)
 
-  abbrev x : ℕ
-  x = start k .args .link .x
+  tested : (k .is-sound .result ≡ true) × (leb (start k .args .reg-address + n) 256 ≡ true)
+  tested = and-eq-true-iff _ _ .0 (c .if1 .taken)
 
-  both : (tested k ≡ true) × ((start k .args .link .check && not (eqb n 0)) && leb n (2 * x) ≡ true)
-  both = and-eq-true-iff _ _ .0 (c .if1 .taken)
+  is-sound : sound (start k .args .link) ≡ true
+  is-sound = sym (k .is-sound .ensures) ∙ tested .0
 
-  checks : (start k .args .link .check ≡ true) × (not (eqb n 0) ≡ true)
-  checks = and-eq-true-iff _ _ .0 (and-eq-true-iff _ _ .0 (both .1) .0)
+  within : start k .args .reg-address + n ≤ 256
+  within = leb-true _ _ (tested .1)
 
-  few : n ≤ 2 * x
-  few = leb-true _ _ (and-eq-true-iff (start k .args .link .check && not (eqb n 0)) _ .0 (both .1) .1)
-
-  most : n ≤ 30
-  most = omega (arith, few, sound-x (start k .args .link) (is-sound k (both .0)))
-
-  some : n ≡ 0 → ⊥
-  some = eqb-false n 0 (not-true _ (checks .1))
-
--- the read into zeros is done
-module _ (c : tie.Then2) where
-  abbrev framed : tie.After-got
-  framed = c .before .before .before .before
-
-  abbrev t : tie.Then1
-  t = framed .before .before .before
-
-  abbrev zero : List ℕ
-  zero = take (2 * n t) (replicate 66 0)
-
-  abbrev frame : List ℕ
-  frame = framed .got .last .1 .1 .0
-
-  abbrev log : List ℕ
-  log = framed .got .last .1 .1 .1 .1 .0
-
-  all : length zero ≡ 2 * n t
-  all = length-take-le (2 * n t) (replicate 66 0) (omega (arith, most t))
-
-  size : length frame ≡ 2 * n t
-  size = framed .got .kept .1 .1 .0 ∙ all
-
-  got : GotBy (read (start (k t) .args .link .address) (start (k t) .args .reg-address) (length zero)) (bus (k t)) zero true frame log
-  got = is-got _ _ _ _ _ _ (c .if2 .taken) (framed .got .ensures)
-
-  tape-room : start (k t) .args .at .tape + (3 + 2 * n t) ≤ length (now (start (k t) .args .tape))
-  tape-room = subst (λ (m : ℕ). start (k t) .args .at .tape + (3 + m) ≤ length (now (start (k t) .args .tape))) all (got .1 .0)
-
-  log-room : start (k t) .args .at .log + 7 ≤ length (now (start (k t) .args .log))
-  log-room = got .1 .1
-
-  checked : {r : Read} → r ≡ taken (start (k t) .args .link .address) (bytes (k t)) frame (Made false (length zero))
-      → ran r (bus (k t) .tape) log (onward (bus (k t) .at) (3 + 2 * n t) 7)
-      ≡ onTape (readRaw (start (k t) .args .link) (start (k t) .args .reg-address) (bytes (k t))) (bus (k t))
-  checked {r} e =
-      subst (λ (m : ℕ). ran r (bus (k t) .tape) log (onward (bus (k t) .at) (3 + m) 7)
-      ≡ onTape (readRaw (start (k t) .args .link) (start (k t) .args .reg-address) (bytes (k t))) (bus (k t))) all
-      (frame-well (start (k t) .args .link) (start (k t) .args .reg-address) (bytes (k t)) (bus (k t)) (is-sound (k t) (both t .0))
-      (within (k t) (both t .0)) r (checks t .0) (few t) (some t) (zeros (2 * n t) 66 (omega (arith, most t))) got e)
-
-abbrev at-test : tie.After-slice-known4 → tie.Then2
-at-test c = c .before .before .before .before .before
-
--- ---- without
-module _ (c : tie.Then4) where
-  abbrev plain : tie.After-got2
+-- ---- without check bytes
+module _ (c : tie.Then3) where
+  abbrev plain : tie.After-got
   plain = c .before .before .before .before .before
 
-  abbrev p : tie.Then3
+  abbrev p : tie.Then2
   p = plain .before .before .before
 
-  abbrev q : tie.After-struct-known2
-  q = p .before .before .before
+  abbrev q : tie.Then1
+  q = p .before .before
 
-  without : (tested q ≡ true) × (not (start q .args .link .check) ≡ true)
-  without = and-eq-true-iff _ _ .0 (p .if3 .taken)
+  was-got : GotBy (read (start (k q) .args .link .address) (start (k q) .args .reg-address) (n q)) (bus (k q)) (bytes (k q)) true
+      (plain .got .last .1 .1 .0) (plain .got .last .1 .1 .1 .1 .0)
+  was-got = is-got _ _ _ _ _ _ (c .if3 .taken) (plain .got .ensures)
 
-  was-got : GotBy (read (start q .args .link .address) (start q .args .reg-address) (length (bytes q))) (bus q) (bytes q) true
-      (plain .got2 .last .1 .1 .0) (plain .got2 .last .1 .1 .1 .1 .0)
-  was-got = is-got _ _ _ _ _ _ (c .if4 .taken) (plain .got2 .ensures)
+-- ---- with check bytes
+module _ (c : tie.Then4) where
+  abbrev o : tie.Then1
+  o = c .before .before .before
+
+  abbrev x : ℕ
+  x = start (k o) .args .link .x
+
+  checks : start (k o) .args .link .check ≡ true
+  checks = not-false _ (c .before .if2 .left)
+
+  both : (not (eqb (n o) 0) ≡ true) × (leb (n o) (2 * x) ≡ true)
+  both = and-eq-true-iff _ _ .0 (c .if4 .taken)
+
+  few : n o ≤ 2 * x
+  few = leb-true _ _ (both .1)
+
+  most : n o ≤ 30
+  most = omega (arith, few, sound-x (start (k o) .args .link) (is-sound o))
+
+  some : n o ≡ 0 → ⊥
+  some = eqb-false (n o) 0 (not-true _ (both .0))
+
+-- the read into zeros is done
+module _ (c : tie.Then5) where
+  abbrev framed : tie.After-got2
+  framed = c .before .before .before .before
+
+  abbrev t : tie.Then4
+  t = framed .before .before .before
+
+  abbrev s : tie.Start
+  s = start (k (o t))
+
+  abbrev m : ℕ
+  m = n (o t)
+
+  abbrev zero : List ℕ
+  zero = take (2 * m) (replicate 66 0)
+
+  abbrev frame : List ℕ
+  frame = framed .got2 .last .1 .1 .0
+
+  abbrev log : List ℕ
+  log = framed .got2 .last .1 .1 .1 .1 .0
+
+  all : length zero ≡ 2 * m
+  all = length-take-le (2 * m) (replicate 66 0) (omega (arith, most t))
+
+  size : length frame ≡ 2 * m
+  size = framed .got2 .kept .1 .1 .0 ∙ all
+
+  got : GotBy (read (s .args .link .address) (s .args .reg-address) (length zero)) (bus (k (o t))) zero true frame log
+  got = is-got _ _ _ _ _ _ (c .if5 .taken) (framed .got2 .ensures)
+
+  tape-room : s .args .at .tape + (3 + 2 * m) ≤ length (now (s .args .tape))
+  tape-room = subst (λ (j : ℕ). s .args .at .tape + (3 + j) ≤ length (now (s .args .tape))) all (got .1 .0)
+
+  log-room : s .args .at .log + 7 ≤ length (now (s .args .log))
+  log-room = got .1 .1
+
+  checked : {r : Read} → r ≡ taken (s .args .link .address) (bytes (k (o t))) frame (Made false (length zero))
+      → ran r (now (s .args .tape)) log (onward (s .args .at) (3 + 2 * m) 7)
+      ≡ onTape (readRaw (s .args .link) (s .args .reg-address) (bytes (k (o t)))) (bus (k (o t)))
+  checked {r} e =
+      subst (λ (j : ℕ). ran r (now (s .args .tape)) log (onward (s .args .at) (3 + j) 7)
+      ≡ onTape (readRaw (s .args .link) (s .args .reg-address) (bytes (k (o t)))) (bus (k (o t)))) all
+      (frame-well (s .args .link) (s .args .reg-address) (bytes (k (o t))) (bus (k (o t))) (is-sound (o t)) (within (o t))
+      r (checks t) (few t) (some t) (zeros (2 * m) 66 (omega (arith, most t))) got e)
+
+-- ---- the places, each from a later one
+abbrev at-test : tie.After-slice-known6 → tie.Then5
+at-test c = c .before .before .before .before .before
+
+abbrev at-joined : tie.After-read-long → tie.Joined1
+at-joined c = c .before .before .before
 
 -- ---- the needs
+cast-x : tie.Need-cast-x
+cast-x c = search needs
+
 is-sound-requires : tie.Need-is-sound-requires
 is-sound-requires c κs = search needs
 
-add-sound : tie.Need-add-sound
-add-sound c = search needs
-
-cast-framed : tie.Need-cast-framed
-cast-framed c = search needs
-
-mul-framed : tie.Need-mul-framed
-mul-framed c = search needs
-
-mul-frame : tie.Need-mul-frame
-mul-frame c = search needs
-
-array-borrow-prefix-frame : tie.Need-array-borrow-prefix-frame
-array-borrow-prefix-frame c = omega (arith, most c)
-
-slice-aggregate-got : tie.Need-slice-aggregate-got
-slice-aggregate-got c = sym (length-take-le (2 * n (c .before)) (replicate 66 0) (omega (arith, most (c .before))))
+add-if1 : tie.Need-add-if1
+add-if1 c = search needs
 
 got-requires : tie.Need-got-requires
-got-requires c κs =
-    let t = c .before .before in
-    omega (arith, length-take-le {A = ℕ} (2 * n t) (replicate 66 0) (omega (arith, most t)), most t)
-
-take-frame-requires : tie.Need-take-frame-requires
-take-frame-requires c κs =
-    let i = c .before .before in
-    ((omega (arith, some (t i)), most (t i)), among-zeros (replicate 66 0) (frame i) (2 * n (t i)) (size i))
-
-mul-further : tie.Need-mul-further
-mul-further c = search needs
+got-requires c κs = omega (arith, within (c .before .before .before .before))
 
 add-further : tie.Need-add-further
-add-further c = omega (arith, most (t (at-test c)))
+add-further c = search needs
 
 further-requires : tie.Need-further-requires
-further-requires c κs =
-    let i = at-test c in
-    let fit = sizes (k (t i)) in
-    (omega (arith, tape-room i, fit .0), omega (arith, log-room i, fit .1))
+further-requires c κs = (omega (arith, was-got c .1 .0), omega (arith, was-got c .1 .1))
 
 same-length : tie.Need-same-length
 same-length c = search needs
@@ -206,23 +193,47 @@ same-length-2 c = search needs
 
 returns : tie.Need-returns
 returns c =
-    let i = at-test (c .before) in
-    let a = start (k (t i)) .args in
+    let i = c .before in
+    let a = start (k (q i)) .args in
     rw (c .further .ensures)
-    (checked i
-    (taken-front (a .link .address) (now (a .«data»)) (replicate 66 0) (frame i) (2 * n (t i)) false (2 * n (t i)) (length (zero i)) (size i)
-    (c .before .before .before .take-frame .ensures)))
+    (read-well (a .link) (a .reg-address) (bytes (k (q i))) (bus (k (q i))) (is-sound (q i)) (within (q i))
+    (not-true _ (p i .if2 .taken)) (was-got i))
+
+mul-if4 : tie.Need-mul-if4
+mul-if4 c = search needs
+
+mul-frame : tie.Need-mul-frame
+mul-frame c = search needs
+
+array-borrow-prefix-frame : tie.Need-array-borrow-prefix-frame
+array-borrow-prefix-frame c = omega (arith, most c)
+
+slice-aggregate-got : tie.Need-slice-aggregate-got
+slice-aggregate-got c =
+    let t = c .before in
+    sym (length-take-le (2 * n (o t)) (replicate 66 0) (omega (arith, most t)))
 
 got-requires-2 : tie.Need-got-requires-2
 got-requires-2 c κs =
-    let p = c .before .before in
-    omega (arith, within (p .before .before .before) (and-eq-true-iff _ _ .0 (p .if3 .taken) .0))
+    let t = c .before .before in
+    omega (arith, length-take-le {A = ℕ} (2 * n (o t)) (replicate 66 0) (omega (arith, most t)), most t)
+
+take-frame-requires : tie.Need-take-frame-requires
+take-frame-requires c κs =
+    let i = c .before .before in
+    ((omega (arith, some (t i)), most (t i)), among-zeros (replicate 66 0) (frame i) (2 * m i) (size i))
+
+mul-further : tie.Need-mul-further
+mul-further c = search needs
 
 add-further-2 : tie.Need-add-further-2
-add-further-2 c = search needs
+add-further-2 c = omega (arith, most (t (at-test c)))
 
 further-requires-2 : tie.Need-further-requires-2
-further-requires-2 c κs = (omega (arith, was-got c .1 .0), omega (arith, was-got c .1 .1))
+further-requires-2 c κs =
+    let i = at-test c in
+    let fit = sizes (k (o (t i))) in
+    (omega (arith, tape-room i, fit .0), omega (arith, log-room i, fit .1))
 
 same-length-3 : tie.Need-same-length-3
 same-length-3 c = search needs
@@ -232,51 +243,53 @@ same-length-4 c = search needs
 
 returns-2 : tie.Need-returns-2
 returns-2 c =
-    let i = c .before in
+    let i = at-test (c .before) in
+    let a = s i .args in
     rw (c .further2 .ensures)
-    (read-well (start (q i) .args .link) (start (q i) .args .reg-address) (bytes (q i)) (bus (q i)) (is-sound (q i) (without i .0))
-    (within (q i) (without i .0)) (not-true _ (without i .1)) (was-got i))
+    (checked i
+    (taken-front (a .link .address) (now (a .«data»)) (replicate 66 0) (frame i) (2 * m i) false (2 * m i) (length (zero i)) (size i)
+    (c .before .before .before .take-frame .ensures)))
 
 read-long-requires : tie.Need-read-long-requires
 read-long-requires c κs = search needs
 
 same-length-5 : tie.Need-same-length-5
 same-length-5 c =
-    let j = c .before .before .before .before .before .before .before in
-    c .before .before .before .before .read-long .kept .1 .1 .0 ∙ ap length (unread j)
+    let l = c .before .before .before .before in
+    l .read-long .kept .1 .1 .0 ∙ ap length (unread (at-joined l))
 
 same-length-6 : tie.Need-same-length-6
 same-length-6 c =
-    let j = c .before .before .before .before .before .before .before in
-    c .before .before .before .before .read-long .kept .1 .1 .1 .1 .0 ∙ ap length (untouched j)
+    let l = c .before .before .before .before in
+    l .read-long .kept .1 .1 .1 .1 .0 ∙ ap length (untouched (at-joined l))
 
 returns-3 : tie.Need-returns-3
 returns-3 c =
-    let j = c .before .before .before .before .before .before .before in
-    let k = j .before in
-    read-same (start k .args .link) (start k .args .reg-address) (bytes k) _ (bus k) (unread j) (untouched j)
-    (c .before .before .before .before .read-long .ensures)
+    let l = c .before .before .before .before in
+    let j = at-joined l in
+    let a = start (j .before) .args in
+    read-same (a .link) (a .reg-address) (bytes (j .before)) _ (bus (j .before)) (unread j) (untouched j) (l .read-long .ensures)
 
 pub read-raw-spec : {M : Type 1} → statement M
 read-raw-spec =
     tie.close
     (tie.spec
+    cast-x
     is-sound-requires
-    add-sound
-    cast-framed
-    mul-framed
-    mul-frame
-    array-borrow-prefix-frame
-    slice-aggregate-got
+    add-if1
     got-requires
-    take-frame-requires
-    mul-further
     add-further
     further-requires
     same-length
     same-length-2
     returns
+    mul-if4
+    mul-frame
+    array-borrow-prefix-frame
+    slice-aggregate-got
     got-requires-2
+    take-frame-requires
+    mul-further
     add-further-2
     further-requires-2
     same-length-3

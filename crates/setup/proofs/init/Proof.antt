@@ -1,329 +1,74 @@
 -- `setup::init` meets its contract. Assumes nothing.
-use mathlib.Core.Path.{_≡_, refl, sym, ap, _∙_}
+use mathlib.Core.Path.{_≡_, sym, ap, _∙_}
 use mathlib.Core.Bool.{true}
-use mathlib.Core.List.{List}
-use Prim.Native.Nat.{ℕ}
-use lib.ListN.{length}
-use denote.Ref.{now}
 use borrow.Author.Tests.{not-true, not-false}
-use Rattle.refusals.specs.Refusal.{Refusal, Answer, value, refused}
-use Rattle.plan.specs.Steps.{InMv, inMv, asSteps, stepsFor}
-use Rattle.plan.specs.Plan.{Values, asInit}
+use Rattle.plan.specs.Steps.{stepsFor}
 use Rattle.plan.specs.declared.Config.{Config}
-use Rattle.bus.specs.Transfers.{Bus, busOf}
-use Rattle.bus.specs.Programs.{Ran, onTape, bind}
-use Rattle.bus.specs.Raw.{Done, asRaw}
-use Rattle.bus.proofs.Programs.{pure-on, pure-off}
-use Rattle.bq769x0.specs.Record.{Left, leaves, leaving, withCalibration, withShunt, isSound}
+use Rattle.bus.specs.Transfers.{Bus}
+use Rattle.bus.specs.Programs.{onTape}
+use Rattle.bq769x0.specs.Record.{headOf, withHead, isSound}
 use Rattle.bq769x0.specs.declared.BQ769x0.{BQ769x0}
+use Rattle.bq769x0.specs.declared.Head.{Head}
 use Rattle.bq769x0.proofs.Soundly.{sound-on, sound-off}
-use Rattle.procedure.specs.Calibrate.{calibrated, calibrate}
-use Rattle.procedure.specs.Init.{startCounter, onward, protect, initBy}
-use Rattle.setup.specs.Stages.{calibratedBy, protectedBy}
-use Rattle.setup.proofs.Onward.{stage-on, stage-off}
+use Rattle.procedure.specs.Init.{setUp, initBy}
 use borrow.Author.Needs.{needs}
 use Rattle.setup.proofs.init.Statement.{statement}
 use Rattle.setup.proofs.init.Tie as tie
 
--- ---- what is given, and what is to be done with it
-module _ (s : tie.Start) where
-  abbrev device : BQ769x0
-  device = s .args .device
+-- ---- a record that is sound is set up by its head
+by-head : (d : BQ769x0) → isSound d ≡ true → {head : Head} → head ≡ headOf d → (config : Config) (b : Bus)
+    → onTape (setUp stepsFor (withHead head (d .readings)) config) b ≡ onTape (initBy stepsFor d config) b
+unfolding initBy
+by-head d sound e config b =
+    ap (λ (h : Head). onTape (setUp stepsFor (withHead h (d .readings)) config) b) e ∙ sym (sound-on _ _ _ _ sound)
 
-  abbrev config : Config
-  config = s .args .config
-
-  abbrev bus : Bus
-  bus = busOf (now (s .args .tape)) (now (s .args .log)) (s .args .at)
-
-  abbrev whole : Ran (Left Values)
-  whole = onTape (initBy stepsFor device config) bus
-
-  -- what comes of it, by the calibration's answer `a` and the bytes read
-  record Read (steps : InMv) (a : Answer Done) (first second : List ℕ) (b : Bus) : Type 0 where
-    off : {r : Refusal} → a ≡ refused r → whole ≡ record { answer = leaving device r; bus = b }
-    on : a ≡ value tt → whole ≡ onTape (protect config steps (calibrated device first second)) b
-
-  -- and by the answer `a` to the six bytes, on the calibrated record `d`
-  record Protected (d : BQ769x0) (a : Answer Values) (b : Bus) : Type 0 where
-    off : {r : Refusal} → a ≡ refused r → whole ≡ record { answer = leaving d r; bus = b }
-    on : {v : Values} → a ≡ value v → whole ≡ onTape (startCounter (withShunt d (config .shunt)) v) b
-
--- ---- the laws, over any results of the calls: each assumption is what one call ensures
-module _ (s : tie.Start) (sound : isSound (device s) ≡ true) {y : Answer InMv} (chosen : y ≡ stepsFor (config s)) where
-  unchosen : {r : Refusal} → y ≡ refused r → whole s ≡ record { answer = leaving (device s) r; bus = bus s }
-  unfolding initBy
-  unchosen t = sound-on _ _ _ _ sound ∙ pure-off _ _ _ _ _ (sym chosen ∙ t)
-
-  module _ {steps : InMv} (t : y ≡ value steps) (a : Answer Done) (first second : List ℕ) {b : Bus}
-      (heard : record { answer = calibratedBy (device s) a first second; bus = b } ≡ onTape (calibrate (device s)) (bus s)) where
-    went : whole s ≡ onTape (bind (calibrate (device s)) (onward (protect (config s) steps))) (bus s)
-    unfolding initBy
-    went = sound-on _ _ _ _ sound ∙ pure-on _ _ _ _ _ (sym chosen ∙ t)
-
-    heard-as : {z : Answer Done} → a ≡ z
-        → record { answer = calibratedBy (device s) z first second; bus = b } ≡ onTape (calibrate (device s)) (bus s)
-    heard-as t′ = ap (λ (x : Answer Done). record { answer = calibratedBy (device s) x first second; bus = b }) (sym t′) ∙ heard
-
-    read : Read s steps a first second b
-    read = record {
-      off = λ t′. went ∙ stage-off _ _ _ (heard-as t′) _ refl;
-      on = λ t′. went ∙ stage-on _ _ _ (heard-as t′) _ refl;
-    }
-
-module _ (s : tie.Start) (d : BQ769x0) (a : Answer Values) (b : Bus) (sent : whole s ≡ onTape (protectedBy (config s) d a) b) where
-  sent-as : {z : Answer Values} → a ≡ z → whole s ≡ onTape (protectedBy (config s) d z) b
-  sent-as t = sent ∙ ap (λ (x : Answer Values). onTape (protectedBy (config s) d x) b) t
-
-  protected : Protected s d a b
-  unfolding onTape
-  protected = record { off = λ t. sent-as t; on = λ t. sent-as t }
-
--- ---- the places of the calls, each from a later one
+-- ---- the places, each from a later one
 abbrev at-start : tie.After-is-sound → tie.Start
 at-start c = c .before .before .before
 
-abbrev at-steps : tie.After-known-told → tie.After-steps
-at-steps c = c .before .before .before
+abbrev at-head : tie.After-set-up → tie.After-head
+at-head c = c .before .before
 
-abbrev at-known : tie.After-calibrate → tie.After-known-told
-at-known c = c .before .before .before .before .before
+abbrev at-set-up : tie.After-with-head → tie.After-set-up
+at-set-up c = c .before .before .before .before
 
-abbrev at-calibrate : tie.After-next → tie.After-calibrate
-at-calibrate c = c .before .before .before
-
-abbrev at-stored : tie.After-protect → tie.After-store-calibration
-at-stored c = c .before .before
-
-abbrev at-told : tie.After-protect → tie.After-enum-told2
-at-told c = at-stored c .before .before
-
-abbrev at-protect : tie.After-next2 → tie.After-protect
-at-protect c = c .before .before .before
-
-abbrev at-values : tie.After-start-counter → tie.After-answer
-at-values c = c .before .before .before
-
-abbrev at-counter : tie.After-store-shunt → tie.After-start-counter
-at-counter c = c .before .before .before .before
-
--- ---- after the choice of steps
-module _ (c : tie.After-steps) where
-  abbrev start : tie.Start
-  start = at-start (c .before .before)
-
-  sound-here : isSound (device start) ≡ true
-  sound-here = sym (c .before .before .is-sound .ensures) ∙ not-false _ (c .before .if1 .left)
-
-  after-steps : {r : Refusal} → asSteps (c .steps .result) ≡ refused r
-      → whole start ≡ record { answer = leaving (device start) r; bus = bus start }
-  after-steps = unchosen start sound-here (c .steps .ensures)
-
--- ---- after the calibration
-module _ (c : tie.After-calibrate) where
-  abbrev steps : tie.After-steps
-  steps = at-steps (at-known c)
-
-  abbrev first : tie.Start
-  first = start steps
-
-  abbrev left : BQ769x0
-  left = calibrated (device first) (c .calibrate .last .1 .0) (c .calibrate .last .1 .1 .0)
-
-  after-calibrate : Read
-      first
-      (inMv (at-known c .before .chosen .given .0 .0))
-      (asRaw (c .calibrate .result .answer))
-      (c .calibrate .last .1 .0)
-      (c .calibrate .last .1 .1 .0)
-      (busOf (now (first .args .tape)) (c .calibrate .last .1 .1 .1 .1 .0) (c .calibrate .result .at))
-  after-calibrate =
-      read first (sound-here steps) (steps .steps .ensures) (ap asSteps (at-known c .before .chosen .given .1)) _ _ _
-      (c .calibrate .ensures (device first) refl refl refl)
-
--- ---- after the six bytes
-module _ (c : tie.After-protect) where
-  abbrev calibration : tie.After-calibrate
-  calibration = at-calibrate (at-told c .before .before)
-
-  after-protect : Protected
-      (first calibration)
-      (left calibration)
-      (asInit (c .protect .result .answer))
-      (busOf (now (first calibration .args .tape)) (c .protect .last .1 .1 .1 .1 .1 .0) (c .protect .result .at))
-  after-protect =
-      protected (first calibration) (left calibration) _ _
-      (after-calibrate calibration .on (ap asRaw (at-told c .enum-told2 .given .1))
-      ∙ sym (c .protect .ensures (left calibration) refl (sym (at-stored c .before .from-registers .ensures))))
-
-  stored : at-stored c .store-calibration .result ≡ left calibration
-  stored =
-      at-stored c .store-calibration .ensures
-      ∙ ap (withCalibration (device (first calibration))) (at-stored c .before .from-registers .ensures)
-
-  kept-log : length (c .protect .last .1 .1 .1 .1 .1 .0) ≡ length (now (first calibration .args .log))
-  kept-log = c .protect .kept .1 .1 .1 .1 .1 .0 ∙ calibration .calibrate .kept .1 .1 .1 .1 .0
-
--- ---- after the counter
-module _ (c : tie.After-start-counter) where
-  abbrev sent : tie.After-protect
-  sent = at-protect (at-values c .before .before)
-
-  abbrev begun : tie.Start
-  begun = first (calibration sent)
-
-  abbrev marked : BQ769x0
-  marked = withShunt (left (calibration sent)) (config begun .shunt)
-
-  after-counter : record {
-    answer = leaves (asInit (c .start-counter .result .answer)) marked;
-    bus = busOf (now (begun .args .tape)) (c .start-counter .last .1 .1 .1 .0) (c .start-counter .result .at);
-  }
-      ≡ whole begun
-  after-counter =
-      c .start-counter .ensures marked refl ∙ sym (after-protect sent .on (ap asInit (at-values c .answer .given .1)))
+sound-here : (c : tie.Else1) → isSound (at-start (c .before) .args .device) ≡ true
+sound-here c = sym (c .before .is-sound .ensures) ∙ not-false _ (c .if1 .left)
 
 -- ---- the needs
 is-sound-requires : tie.Need-is-sound-requires
 is-sound-requires c κs = search needs
 
-leave-requires : tie.Need-leave-requires
-leave-requires c κs = search needs
-
 returns : tie.Need-returns
 unfolding initBy
-returns c =
-    rw (c .leave .ensures) (sym (sound-off _ _ _ _ (sym (c .before .before .is-sound .ensures) ∙ not-true _ (c .before .if1 .taken))))
+returns c = sym (sound-off _ _ _ _ (sym (c .before .is-sound .ensures) ∙ not-true _ (c .if1 .taken)))
 
-steps-requires : tie.Need-steps-requires
-steps-requires c κs = search needs
+head-requires : tie.Need-head-requires
+head-requires c κs = search needs
 
-enum-known-chosen : tie.Need-enum-known-chosen
-enum-known-chosen c = search needs
+set-up-requires : tie.Need-set-up-requires
+set-up-requires c κs = search needs
 
-enum-told : tie.Need-enum-told
-enum-told c = search needs
-
-refusal-requires : tie.Need-refusal-requires
-refusal-requires c κs = search needs
-
-leave-requires-2 : tie.Need-leave-requires-2
-leave-requires-2 c κs = search needs
-
-returns-2 : tie.Need-returns-2
-returns-2 c =
-    let t = ap asSteps (c .before .before .enum-told .given .1) in
-    rw (c .leave2 .ensures, c .before .refusal .ensures, t) (sym (after-steps (c .before .before .before .before) t))
-
-calibrate-requires : tie.Need-calibrate-requires
-calibrate-requires c κs = search needs
-
-enum-told-2 : tie.Need-enum-told-2
-enum-told-2 c = search needs
-
-enum-told-3 : tie.Need-enum-told-3
-enum-told-3 c = search needs
-
-refusal-requires-2 : tie.Need-refusal-requires-2
-refusal-requires-2 c κs = search needs
-
-leave-requires-3 : tie.Need-leave-requires-3
-leave-requires-3 c κs = search needs
+with-head-requires : tie.Need-with-head-requires
+with-head-requires c κs = search needs
 
 same-length : tie.Need-same-length
 same-length c = search needs
 
-returns-3 : tie.Need-returns-3
-returns-3 c =
-    let t = ap asRaw (c .before .before .enum-told3 .given .1) in
-    rw (c .leave3 .ensures, c .before .refusal2 .ensures, t)
-    (sym (after-calibrate (at-calibrate (c .before .before .before .before)) .off t))
-
-array-read-from-registers : tie.Need-array-read-from-registers
-array-read-from-registers c = search needs
-
-array-read-from-registers-2 : tie.Need-array-read-from-registers-2
-array-read-from-registers-2 c = search needs
-
-array-read-from-registers-3 : tie.Need-array-read-from-registers-3
-array-read-from-registers-3 c = search needs
-
-from-registers-requires : tie.Need-from-registers-requires
-from-registers-requires c κs = search needs
-
-store-calibration-requires : tie.Need-store-calibration-requires
-store-calibration-requires c κs = search needs
-
-protect-requires : tie.Need-protect-requires
-protect-requires c κs = search needs
-
-enum-known-answer : tie.Need-enum-known-answer
-enum-known-answer c = search needs
-
-enum-told-4 : tie.Need-enum-told-4
-enum-told-4 c = search needs
-
-leave-requires-4 : tie.Need-leave-requires-4
-leave-requires-4 c κs = search needs
-
-same-length-2 : tie.Need-same-length-2
-same-length-2 c = kept-log (at-protect (c .before .before .before))
-
-returns-4 : tie.Need-returns-4
-returns-4 c =
-    let t = ap asInit (c .before .enum-told4 .given .1) in
-    rw (c .leave4 .ensures, stored (at-protect (c .before .before .before)), t)
-    (sym (after-protect (at-protect (c .before .before .before)) .off t))
-
-start-counter-requires : tie.Need-start-counter-requires
-start-counter-requires c κs = search needs
-
-store-shunt-requires : tie.Need-store-shunt-requires
-store-shunt-requires c κs = search needs
-
-leave-requires-5 : tie.Need-leave-requires-5
-leave-requires-5 c κs = search needs
-
-same-length-3 : tie.Need-same-length-3
-same-length-3 c = at-counter (c .before) .start-counter .kept .1 .1 .1 .0 ∙ kept-log (sent (at-counter (c .before)))
-
-returns-5 : tie.Need-returns-5
-returns-5 c =
-    rw (c .leave5 .ensures, c .before .store-shunt .ensures, stored (sent (at-counter (c .before)))) (after-counter (at-counter (c .before)))
+returns-2 : tie.Need-returns-2
+returns-2 c =
+    rw (c .with-head .ensures)
+    (at-set-up c .set-up .ensures _
+    ∙ by-head _ (sound-here (at-head (at-set-up c) .before)) (at-head (at-set-up c) .head .ensures) _ _)
 
 pub init-spec : {M : Type 1} → statement M
 init-spec =
     tie.close
     (tie.spec
     is-sound-requires
-    leave-requires
     returns
-    steps-requires
-    enum-known-chosen
-    enum-told
-    refusal-requires
-    leave-requires-2
-    returns-2
-    calibrate-requires
-    enum-told-2
-    enum-told-3
-    refusal-requires-2
-    leave-requires-3
+    head-requires
+    set-up-requires
+    with-head-requires
     same-length
-    returns-3
-    array-read-from-registers
-    array-read-from-registers-2
-    array-read-from-registers-3
-    from-registers-requires
-    store-calibration-requires
-    protect-requires
-    enum-known-answer
-    enum-told-4
-    leave-requires-4
-    same-length-2
-    returns-4
-    start-counter-requires
-    store-shunt-requires
-    leave-requires-5
-    same-length-3
-    returns-5)
+    returns-2)

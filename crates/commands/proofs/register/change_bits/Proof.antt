@@ -11,11 +11,8 @@ use Rattle.commands.proofs.register.change_bits.Tie as tie
 abbrev at-read : tie.After-next → tie.After-read-one
 at-read c = c .before .before .before
 
-abbrev at-changed : tie.After-slice-known3 → tie.After-changed
-at-changed c = c .before .before .before .before
-
-abbrev at-told : tie.After-slice-known3 → tie.After-enum-told
-at-told c = at-changed c .before .before
+abbrev at-told : tie.After-write-one → tie.After-enum-told
+at-told c = c .before .before .before
 
 -- ---- the needs
 read-one-requires : tie.Need-read-one-requires
@@ -34,8 +31,8 @@ returns : tie.Need-returns
 returns c =
     unread _ _ _ _ (at-read (c .before .before) .read-one .ensures) (ap asRaw (c .enum-told2 .given .1))
 
-array-read-t19 : tie.Need-array-read-t19
-array-read-t19 c = search needs
+array-read-t18 : tie.Need-array-read-t18
+array-read-t18 c = search needs
 
 write-one-requires : tie.Need-write-one-requires
 write-one-requires c κs = search needs
@@ -47,8 +44,8 @@ returns-2 : tie.Need-returns-2
 unfolding putting
 returns-2 c =
     c .before .before .write-one .ensures
-    ∙ replaced _ _ _ _ (at-read (at-told c .before .before) .read-one .ensures)
-    (ap asRaw (at-told c .enum-told .given .1)) refl
+    ∙ replaced _ _ _ _ (at-read (at-told (c .before .before) .before .before) .read-one .ensures)
+    (ap asRaw (at-told (c .before .before) .enum-told .given .1)) refl
 
 pub change-bits-spec : {M : Type 1} → statement M
 change-bits-spec =
@@ -59,7 +56,7 @@ change-bits-spec =
     enum-told-2
     same-length
     returns
-    array-read-t19
+    array-read-t18
     write-one-requires
     same-length-2
     returns-2)

@@ -23,16 +23,20 @@ enum-told-2 c = search needs
 refusal-requires : tie.Need-refusal-requires
 refusal-requires c κs = search needs
 
+refuse-byte-requires : tie.Need-refuse-byte-requires
+refuse-byte-requires c κs = search needs
+
 same-length : tie.Need-same-length
 same-length c = search needs
 
 returns : tie.Need-returns
 returns c =
-    read-off _ _ _ (at-read (c .before .before .before) .read-one .ensures) (c .refusal .ensures)
-    (ap asRaw (c .before .enum-told2 .given .1))
+    rw (c .refuse-byte .ensures .0, c .refuse-byte .ensures .1)
+    (read-off _ _ _ (at-read (c .before .before .before .before) .read-one .ensures) (c .before .refusal .ensures)
+    (ap asRaw (c .before .before .enum-told2 .given .1)))
 
-array-read-t17 : tie.Need-array-read-t17
-array-read-t17 c = search needs
+array-read-t16 : tie.Need-array-read-t16
+array-read-t16 c = search needs
 
 same-length-2 : tie.Need-same-length-2
 same-length-2 c = search needs
@@ -49,8 +53,9 @@ read-register-spec =
     enum-told
     enum-told-2
     refusal-requires
+    refuse-byte-requires
     same-length
     returns
-    array-read-t17
+    array-read-t16
     same-length-2
     returns-2)

@@ -25,11 +25,11 @@ module _ (mask byte : ℕ) (enable : Bool) {held : Bool} (held-is : held ≡ sta
 abbrev at-read : tie.After-next → tie.After-read-one
 at-read c = c .before .before .before
 
-abbrev at-changed : tie.After-slice-known3 → tie.After-changed
-at-changed c = c .before .before .before .before
+abbrev at-write : tie.After-slice-known3 → tie.After-write-one
+at-write c = c .before .before
 
 abbrev at-switched : tie.After-slice-known3 → tie.After-switched
-at-switched c = at-changed c .before .before
+at-switched c = at-write c .before .before .before
 
 abbrev at-held : tie.After-slice-known3 → tie.After-stands
 at-held c = at-switched c .before .before
@@ -84,7 +84,7 @@ same-length-3 c = search needs
 
 returns-3 : tie.Need-returns-3
 returns-3 c =
-    c .before .before .write-one .ensures
+    at-write c .write-one .ensures
     ∙ replaced _ _ _ _ (read (at-held c) .read-one .ensures) (went (at-held c))
     (differs _ _ _ (at-held c .stands .ensures) (at-switched c .before .if1 .left) (at-switched c .switched .ensures))
 

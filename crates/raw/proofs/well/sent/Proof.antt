@@ -1,15 +1,16 @@
 -- `raw::well::sent` meets its contract. Assumes nothing.
-use mathlib.Core.Path.{_≡_, refl, ap}
-use mathlib.Core.Bool.{false}
+use mathlib.Core.Path.{_≡_, refl, sym, ap, _∙_}
+use mathlib.Core.Bool.{true, false, and-eq-true-iff}
 use Prim.Native.Nat.{ℕ, _+_, _≤_}
 use native.Mathlib.Nat.{add-zero}
 use native.Mathlib.Omega.{arith}
 use lib.ListN.{length}
+use borrow.Author.Tests.{leb-true}
 use denote.Ref.{now}
 use Rattle.bus.specs.Fields.{field}
 use Rattle.bus.specs.Transfers.{Transfer, write, Bus, busOf, logField, wanted}
 use Rattle.raw.specs.declared.transfer.Reply.the-variants.{Made}
-use Rattle.raw.proofs.Moves.{Replied, well, room, there, written-by}
+use Rattle.raw.proofs.Moves.{Replied, well, there, written-by}
 use borrow.Author.Needs.{needs}
 use Rattle.raw.proofs.well.sent.Statement.{statement}
 use Rattle.raw.proofs.well.sent.Tie as tie
@@ -27,26 +28,26 @@ module _ (s : tie.Start) where
   unfolding logField field
   need = omega arith
 
--- ---- the places, each from a later one
-abbrev at-start : tie.After-has-room → tie.Start
-at-start c = c .before .before .before .before
-
 -- ---- where both tests hold
 module _ (c : tie.Then1) where
+  abbrev tested : tie.After-has-room
+  tested = c .before .before
+
   abbrev start : tie.Start
-  start = at-start (c .before .before)
+  start = tested .before .before .before .before
+
+  both : (tested .has-room .result ≡ true) × (c .before .is-done .result ≡ true)
+  both = and-eq-true-iff _ _ .0 (c .if1 .taken)
+
+  log-room : start .args .at .log + (4 + length (now (start .args .frame))) ≤ length (now (start .args .log))
+  log-room = leb-true _ _ (sym (tested .has-room .ensures) ∙ both .0)
 
   made : Replied (transfer start) (bus start) (Made false 0)
   unfolding wanted
-  made =
-      well (transfer start) (bus start) _ _ (rw (need start) at (c .before .before .has-room .ensures))
-      (c .before .is-done .ensures) (c .if1 .taken)
+  made = well (transfer start) (bus start) (omega (arith, need start, log-room)) (c .before .is-done .ensures (both .1))
 
   tape-room : start .args .at .tape + 3 ≤ length (now (start .args .tape))
   tape-room = omega (arith, there (transfer start) (bus start) _ _ made)
-
-  log-room : start .args .at .log + (4 + length (now (start .args .frame))) ≤ length (now (start .args .log))
-  log-room = omega (arith, need start, room (transfer start) (bus start) _ _ made)
 
 -- ---- the needs
 add-has-room : tie.Need-add-has-room
