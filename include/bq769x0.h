@@ -17,7 +17,12 @@
  *   inputs  a byte a cell: the input, from 1, that the cell beside it in list sits on; bytes past the count are left as they were
  *   out   BQ769X0_OUT bytes, all written whatever the answer
  *
- * No two buffers overlap, but that job and tape, which are only read, may. A buffer of length 0 may have any pointer.
+ * No two buffers overlap, but that job and tape, which are only read, may. A buffer of length 0 may have any pointer. Every length is a
+ * count of bytes. docs/FORMAT.md has each buffer byte by byte, with an example.
+ *
+ * The library is for Linux on 64-bit x86, since the Rattle kit compiles for nothing else: a PC that replays or drives a board's traffic
+ * can link it, a microcontroller can't. The functions allocate nothing, keep nothing between calls, and call nothing outside but memcpy,
+ * memmove and memset.
  */
 #ifndef BQ769X0_H
 #define BQ769X0_H
@@ -28,6 +33,10 @@
 #ifdef __cplusplus
 extern "C" {
 #endif
+
+/* Counts up where a function, a layout or a number of this header changes; and the Rust crate whose answers these are. */
+#define BQ769X0_VERSION 1
+#define BQ769X0_CRATE "0.3.1"
 
 /*
  * out
@@ -43,8 +52,35 @@ extern "C" {
  */
 #define BQ769X0_OUT 36
 
-/* What the functions return. A refusal leaves list, inputs and cell as they were, and in log the transfers made before it, the
- * faulted one included. */
+/* Where each number of out begins: the first two have eight bytes, the others four. */
+enum bq769x0_place {
+    BQ769X0_TAPE_USED = 0,
+    BQ769X0_LOG_USED = 8,
+    BQ769X0_RANGE = 16,
+    BQ769X0_SCD_A = 20,
+    BQ769X0_OCD_A = 24,
+    BQ769X0_UV_MV = 28,
+    BQ769X0_OV_MV = 32,
+    BQ769X0_FIGURES = 16,
+    BQ769X0_FIGURE_1 = 20,
+    BQ769X0_FIGURE_2 = 24
+};
+
+/* The number of four bytes, and of eight, that begins at a place. */
+static inline uint32_t bq769x0_u32(const uint8_t *at) {
+    return (uint32_t)at[0] << 24 | (uint32_t)at[1] << 16 | (uint32_t)at[2] << 8 | (uint32_t)at[3];
+}
+
+static inline uint64_t bq769x0_u64(const uint8_t *at) { return (uint64_t)bq769x0_u32(at) << 32 | bq769x0_u32(at + 4); }
+
+/* The millivolts of a cell of list, from 0, with their sign. */
+static inline int32_t bq769x0_millivolts(const uint8_t *list, size_t cell) {
+    uint32_t mv = bq769x0_u32(list + 4 * cell);
+    return mv <= INT32_MAX ? (int32_t)mv : -(int32_t)(UINT32_MAX - mv) - 1;
+}
+
+/* What the functions return. A refusal leaves list, inputs and cell as they were, and in log every transfer that was made, the one that
+ * faulted or showed the error included. */
 enum bq769x0_refusal {
     BQ769X0_OK = 0,
     BQ769X0_CRC_MISMATCH = 1,         /* a check byte of a read disagrees */
@@ -70,13 +106,43 @@ enum bq769x0_refusal {
     BQ769X0_NO_SUCH_INPUT = 21        /* no cell of the pack sits on that input: 0, a shorted one, or one over X */
 };
 
+/* The name of what a function returned, as the Rust and this driver have it. */
+static inline const char *bq769x0_name(uint8_t number) {
+    if (number > BQ769X0_NO_SUCH_INPUT) return "no number of this driver";
+    switch ((enum bq769x0_refusal)number) {
+    case BQ769X0_OK: return "Ok";
+    case BQ769X0_CRC_MISMATCH: return "CRCMismatch";
+    case BQ769X0_I2C_ERROR: return "I2CError";
+    case BQ769X0_BUF_TOO_LARGE: return "BufTooLarge";
+    case BQ769X0_UNINITIALIZED: return "Uninitialized";
+    case BQ769X0_VERIFY_ERROR: return "VerifyError";
+    case BQ769X0_RANGE_MISMATCH: return "OCDSCDRangeMismatch";
+    case BQ769X0_UV_UNOBTAINABLE: return "UVThresholdUnobtainable";
+    case BQ769X0_OV_UNOBTAINABLE: return "OVThresholdUnobtainable";
+    case BQ769X0_BAD_DEVICE: return "BadDevice";
+    case BQ769X0_BAD_CELL_COUNT: return "BadCellCount";
+    case BQ769X0_BAD_ADDRESS: return "BadAddress";
+    case BQ769X0_BAD_SHUNT: return "BadShunt";
+    case BQ769X0_CURRENT_TOO_LARGE: return "CurrentTooLarge";
+    case BQ769X0_REGISTER_RUNS_OUT: return "RegisterRunsOut";
+    case BQ769X0_BAD_TAPE: return "BadTape";
+    case BQ769X0_TAPE_ENDED: return "TapeEnded";
+    case BQ769X0_LOG_FULL: return "LogFull";
+    case BQ769X0_UNKNOWN_FLAGS: return "UnknownFlags";
+    case BQ769X0_NO_ROOM: return "NoRoom";
+    case BQ769X0_UNKNOWN_RANGE: return "UnknownRange";
+    case BQ769X0_NO_SUCH_INPUT: return "NoSuchInput";
+    }
+    return "no number of this driver";
+}
+
 /* Sets the device up. */
 uint8_t bq769x0_init(const uint8_t *job, size_t job_len, const uint8_t *tape, size_t tape_len, uint8_t *log, size_t log_len,
                      uint8_t out[BQ769X0_OUT]);
 
 /* Sets the device up and, where that is accepted, reads its cells by the datasheet's wiring: each fitted input once, the bottom
- * of the pack first, its number in inputs and its voltage beside it in list. out is as after bq769x0_init, the positions after
- * the reading. */
+ * of the pack first, its number in inputs and its voltage beside it in list. inputs takes a byte a cell, list four: inputs_len and
+ * list_len are in bytes. out is as after bq769x0_init, the positions after the reading. */
 uint8_t bq769x0_init_wired(const uint8_t *job, size_t job_len, const uint8_t *tape, size_t tape_len, uint8_t *log, size_t log_len,
                            uint8_t *inputs, size_t inputs_len, uint8_t *list, size_t list_len, uint8_t out[BQ769X0_OUT]);
 
@@ -84,8 +150,9 @@ uint8_t bq769x0_init_wired(const uint8_t *job, size_t job_len, const uint8_t *ta
  * BQ769X0_BAD_DEVICE, BQ769X0_BAD_CELL_COUNT, BQ769X0_NO_SUCH_INPUT. */
 uint8_t bq769x0_cell_on(uint8_t x, uint8_t cells, uint8_t input, uint8_t cell[1]);
 
-/* As bq769x0_init_wired, with the list of the Rust crate bq769x0 0.3.1, without the inputs: on ten of the fifteen packs that list
- * shows other inputs than the datasheet's wiring has, and leaves out at least one that carries a cell. */
+/* As bq769x0_init_wired, with the list of the Rust crate bq769x0 0.3.1, without the inputs; list_len is in bytes, four a cell. On a
+ * BQ76920, and on a BQ76940 of 14 or 15 cells, that list shows the inputs of the datasheet's wiring. On a BQ76930 of any count, and on
+ * a BQ76940 of 9 to 13, it does not: it shows some input twice and leaves out at least one that carries a cell. */
 uint8_t bq769x0_init_cells(const uint8_t *job, size_t job_len, const uint8_t *tape, size_t tape_len, uint8_t *log, size_t log_len,
                            uint8_t *list, size_t list_len, uint8_t out[BQ769X0_OUT]);
 

@@ -317,7 +317,25 @@ static void no_pointers(enum reading reading) {
     }
 }
 
+/* The header's own readers: a number of four bytes and of eight, millivolts on both sides of 0, and a name for each number and no other. */
+static void readers(void) {
+    static const uint8_t bytes[] = {0x01, 0x23, 0x45, 0x67, 0x89, 0xAB, 0xCD, 0xEF};
+    static const uint8_t list[] = {0, 0, 0x0B, 0xB9, 0xFF, 0xFF, 0xFF, 0xFF, 0x7F, 0xFF, 0xFF, 0xFF, 0x80, 0, 0, 0};
+    static const struct call none = {.name = "the header's readers"};
+    must(bq769x0_u32(bytes) == 0x01234567 && bq769x0_u64(bytes) == 0x0123456789ABCDEF, &none, "a number");
+    must(bq769x0_millivolts(list, 0) == 3001 && bq769x0_millivolts(list, 1) == -1, &none, "a cell's millivolts");
+    must(bq769x0_millivolts(list, 2) == INT32_MAX && bq769x0_millivolts(list, 3) == INT32_MIN, &none, "the farthest millivolts");
+    must(strcmp(bq769x0_name(BQ769X0_OK), "Ok") == 0, &none, "the name of 0");
+    must(strcmp(bq769x0_name(BQ769X0_BAD_TAPE), "BadTape") == 0, &none, "the name of 15");
+    for (int a = 0; a <= UINT8_MAX; a++) {
+        int named = a <= BQ769X0_NO_SUCH_INPUT;
+        must(named == (strcmp(bq769x0_name((uint8_t)a), bq769x0_name(UINT8_MAX)) != 0), &none, "a name, or none");
+        for (int b = 0; named && b < a; b++) must(strcmp(bq769x0_name((uint8_t)a), bq769x0_name((uint8_t)b)) != 0, &none, "a name of its own");
+    }
+}
+
 int main(void) {
+    readers();
     for (enum reading reading = NONE; reading <= WIRED; reading++) {
         struct call c = example("the example", reading);
         made(&c, reading, 0);

@@ -22,15 +22,15 @@ moved-none : (b : Bus) → moved [] [] b ≡ b
 unfolding moved
 moved-none b = rw (put-none (b .log) (b .at .log), add-zero, add-zero)
 
-moved-moved : (t u l m : List ℕ) (b : Bus) → Room b l → moved u m (moved t l b) ≡ moved (t ++ u) (l ++ m) b
+pub moved-moved : (t u l m : List ℕ) (b : Bus) → Room b l → moved u m (moved t l b) ≡ moved (t ++ u) (l ++ m) b
 unfolding moved
 moved-moved t u l m b room = rw (put-put (b .log) (b .at .log) l room m, length-append, length-append, add-assoc, add-assoc)
 
-room-first : (l m : List ℕ) (b : Bus) → Room b (l ++ m) → Room b l
+pub room-first : (l m : List ℕ) (b : Bus) → Room b (l ++ m) → Room b l
 room-first l m b room = let all : b .at .log + (length l + length m) ≤ length (b .log) = rw length-append at room in omega arith
 
 module _ (v l : List ℕ) (b : Bus) where
-  rest-moved : (rest : List ℕ) → drop (b .at .tape) (b .tape) ≡ v ++ rest
+  pub rest-moved : (rest : List ℕ) → drop (b .at .tape) (b .tape) ≡ v ++ rest
       → drop (moved v l b .at .tape) (moved v l b .tape) ≡ rest
   unfolding moved
   rest-moved rest h =
@@ -38,7 +38,7 @@ module _ (v l : List ℕ) (b : Bus) where
       ∙ ap (drop (length v)) h
       ∙ drop-at v rest (length v) refl
 
-  room-moved : (m : List ℕ) → Room b (l ++ m) → Room (moved v l b) m
+  pub room-moved : (m : List ℕ) → Room b (l ++ m) → Room (moved v l b) m
   unfolding moved
   room-moved m room =
       let all : b .at .log + (length l + length m) ≤ length (b .log) = rw length-append at room in
@@ -46,12 +46,12 @@ module _ (v l : List ℕ) (b : Bus) where
 
 -- ---- one transfer
 module _ (t : Transfer) (b : Bus) (rest : List ℕ) (room : Room b (logField t)) where
-  outcome-fits : (o : Outcome) → Fitting (wanted t) o → drop (b .at .tape) (b .tape) ≡ tapeField o ++ rest
+  pub outcome-fits : (o : Outcome) → Fitting (wanted t) o → drop (b .at .tape) (b .tape) ≡ tapeField o ++ rest
       → outcome t b ≡ o
   unfolding outcome answered
   outcome-fits o f h = rw (le-leb _ _ room) (ap (says (wanted t)) h ∙ says-tape (wanted t) o rest f)
 
-  after-fits : (o : Outcome) → Fitting (wanted t) o → after t o b ≡ moved (tapeField o) (logField t) b
+  pub after-fits : (o : Outcome) → Fitting (wanted t) o → after t o b ≡ moved (tapeField o) (logField t) b
   unfolding after
   after-fits (done bytes) f = refl
   after-fits (fault bytes) f = refl

@@ -6,7 +6,9 @@ pub mod Example
 pub mod Fed
 pub mod FirstPart
 pub mod Honest
+pub mod Live
 pub mod Logs
+pub mod Makes
 pub mod Quits
 pub mod Raws
 pub mod RegisterBytes

@@ -1,4 +1,4 @@
--- How long the log of a program can become, on any wire; and so of the bus's calls: 7 bytes for a read, and for a write its field and,
+-- How long the log of a program can become, on any device; and so of the bus's calls: 7 bytes for a read, and for a write its field and,
 -- without checks, 7 bytes for the read back.
 -- Assumes nothing.
 use mathlib.Core.Path.{_≡_, refl, sym, ap, _∙_}
@@ -17,28 +17,28 @@ use Rattle.bus.specs.Transfers.{Transfer, read, write, Outcome, logField}
 use Rattle.bus.specs.Programs.{Prog, ret, ask, bind, proceed, _orLeave_, _>>=_}
 use Rattle.bus.specs.Raw.{sound, plainRead, askFrame, checkedRead, readRaw, readBytes, askWrite, send, askBack, writeRaw}
 use Rattle.bus.specs.declared.link.Link.{Link}
-use Rattle.chip.specs.Devices.{onDevice, logOf}
-use Rattle.chip.specs.OnChip.{Wired, onWire, onChip}
+use Rattle.chip.specs.Devices.{Reached, onDevice, logOf}
 
 -- ---- the length of a log
-pub log-bind : {A B : Type 0} (p : Prog A) (f : A → Prog B) (w : Wired)
-    → logOf onWire (bind p f) w ≡ logOf onWire p w ++ logOf onWire (f (onChip p w .answer)) (onChip p w .device)
-unfolding logOf bind onDevice
-log-bind (ret a) f w = refl
-log-bind (ask t k) f w =
-    ap (_++_ (logField t)) (log-bind (k (onWire w t .answer)) f (onWire w t .device)) ∙ sym (append-assoc (logField t) _ _)
+module _ {S : Type 0} (move : S → Transfer → Reached S Outcome) where
+  pub log-bind : {A B : Type 0} (p : Prog A) (f : A → Prog B) (s : S)
+      → logOf move (bind p f) s ≡ logOf move p s ++ logOf move (f (onDevice move p s .answer)) (onDevice move p s .device)
+  unfolding logOf bind onDevice
+  log-bind (ret a) f s = refl
+  log-bind (ask t k) f s =
+      ap (_++_ (logField t)) (log-bind (k (move s t .answer)) f (move s t .device)) ∙ sym (append-assoc (logField t) _ _)
 
--- at most n bytes on every wire
-pub record Logs {A : Type 0} (n : ℕ) (p : Prog A) : Type 0 where
-  pub most : (w : Wired) → length (logOf onWire p w) ≤ n
+-- at most n bytes on every device
+pub record Logs {A : Type 0} (n : ℕ) (p : Prog A) : Type 1 where
+  pub most : {S : Type 0} (move : S → Transfer → Reached S Outcome) (s : S) → length (logOf move p s) ≤ n
 
 pub logs-ret : {A : Type 0} (n : ℕ) (a : A) → Logs n (ret a)
 unfolding logOf
-logs-ret n a = record { most = λ w. omega arith }
+logs-ret n a = record { most = λ move s. omega arith }
 
 logs-one : {A : Type 0} (n : ℕ) (t : Transfer) (f : Outcome → A) → length (logField t) ≤ n → Logs n (ask t (λ o. ret (f o)))
 unfolding logOf
-logs-one n t f h = record { most = λ w. rw length-append (omega arith) }
+logs-one n t f h = record { most = λ move s. rw length-append (omega arith) }
 
 logs-if : {A : Type 0} (n : ℕ) (c : Bool) {p q : Prog A} → Logs n p → Logs n q → Logs n (if c then p else q)
 logs-if n true h k = h
@@ -47,7 +47,9 @@ logs-if n false h k = k
 module _ {A B : Type 0} (m n : ℕ) where
   pub logs-bind : {p : Prog A} (f : A → Prog B) → Logs m p → ((a : A) → Logs n (f a)) → Logs (m + n) (bind p f)
   logs-bind {p} f h g = record {
-    most = λ w. rw (log-bind p f w, length-append) (omega (arith, h .most w, g (onChip p w .answer) .most (onChip p w .device)));
+    most = λ move s.
+        let r = onDevice move p s in
+        rw (log-bind move p f s, length-append) (omega (arith, h .most move s, g (r .answer) .most move (r .device)));
   }
 
 module _ {A B : Type 0} (leave : Refusal → B) (f : A → Prog B) where

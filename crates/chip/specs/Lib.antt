@@ -1,3 +1,4 @@
 pub mod Devices
+pub mod Live
 pub mod Chip
 pub mod OnChip

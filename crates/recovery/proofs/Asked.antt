@@ -14,6 +14,7 @@ use Rattle.plan.specs.Plan.{Values}
 use Rattle.plan.specs.declared.Config.{Config}
 use Rattle.plan.proofs.Six.{plan-six}
 use Rattle.laws.specs.Choice.{if_then_else_}
+use Rattle.bus.specs.Transfers.{Transfer, Outcome}
 use Rattle.bus.specs.Programs.{Prog, ret, ask, bind, _orLeave_, _>>=_}
 use Rattle.bus.specs.Raw.{readBytes, writeRaw}
 use Rattle.bus.proofs.Decoders.{Short}
@@ -23,8 +24,7 @@ use Rattle.procedure.specs.Calibrate.{calibrate}
 use Rattle.procedure.specs.Init.{onward, onwardBy, startCounter, protect, initBy}
 use Rattle.bq769x0.specs.declared.BQ769x0.{BQ769x0}
 use Rattle.bus.proofs.Always.{always, always-call}
-use Rattle.chip.specs.Devices.{onDevice, logOf}
-use Rattle.chip.specs.OnChip.{Wired, onWire, onChip}
+use Rattle.chip.specs.Devices.{Reached, onDevice, logOf}
 use Rattle.chip.proofs.Asks.{Asks, nothing, asks-bind, asks-call, asks-pure}
 use Rattle.chip.proofs.Quits.{Over, over, Quits, ends, Refuses, refuses-by}
 use Rattle.chip.proofs.Quits.{quits-bind, quits-call, quits-pure, quits-read, quits-write}
@@ -32,7 +32,7 @@ use Rattle.chip.proofs.Fed.{read-short, write-short}
 use Rattle.chip.proofs.Logs.{log-bind, Logs, logs-ret, logs-proceed, logs-call, writeLog, logs-read, logs-write}
 use Rattle.recovery.specs.Runs.{enough}
 
-pub record Fine {A : Type 0} (Off : A → Type 0) (n : ℕ) (p : Prog A) : Type 0 where
+pub record Fine {A : Type 0} (Off : A → Type 0) (n : ℕ) (p : Prog A) : Type 1 where
   pub quits : Quits Off p
   pub short : Asks Short p
   pub logs : Logs n p
@@ -63,11 +63,12 @@ module _ {A B : Type 0} (leave : Refusal → Left B) (f : A → Prog (Left B))
     logs = logs-proceed leave f n y (λ a e. g a e .logs);
   }
 
--- what holds of a program's answer whatever its transfers give holds on every wire
-on-chip : {A : Type 0} (P : A → Type 0) (p : Prog A) → always P p → (w : Wired) → P (onChip p w .answer)
+-- what holds of a program's answer whatever its transfers give holds on every device
+on-device : {S A : Type 0} (move : S → Transfer → Reached S Outcome) (P : A → Type 0) (p : Prog A) → always P p → (s : S)
+    → P (onDevice move p s .answer)
 unfolding always onDevice
-on-chip P (ret a) h w = h
-on-chip P (ask t k) h w = on-chip P (k (onWire w t .answer)) (h (onWire w t .answer)) (onWire w t .device)
+on-device move P (ret a) h s = h
+on-device move P (ask t k) h s = on-device move P (k (move s t .answer)) (h (move s t .answer)) (move s t .device)
 
 -- a stage, and the next one on the record that it leaves, which has its check setting
 module _ {A B : Type 0} (f : BQ769x0 → Prog (Left B)) (size : Bool → ℕ)
@@ -87,14 +88,14 @@ module _ {A B : Type 0} (f : BQ769x0 → Prog (Left B)) (size : Bool → ℕ)
       by (value a) = fine (left .device)
       by (refused r) = fine-ret LeftOff _ _
 
-  -- the log of the second stage, after the first on a wire
-  onward-log : (check : Bool) (p : Prog (Left A)) → always (λ left. left .device .link .check ≡ check) p → (w : Wired)
-      → length (logOf onWire (onward f (onChip p w .answer)) (onChip p w .device)) ≤ size check
-  onward-log check p same w =
-      let left = onChip p w .answer in
-      let w′ = onChip p w .device in
-      subst (λ (c : Bool). length (logOf onWire (onward f left) w′) ≤ size c) (on-chip _ p same w)
-      (onward-fine left .logs .most w′)
+  -- the log of the second stage, after the first on a device
+  onward-log : {S : Type 0} (move : S → Transfer → Reached S Outcome) (check : Bool) (p : Prog (Left A))
+      → always (λ left. left .device .link .check ≡ check) p → (s : S)
+      → length (logOf move (onward f (onDevice move p s .answer)) (onDevice move p s .device)) ≤ size check
+  onward-log move check p same s =
+      let r = onDevice move p s in
+      subst (λ (c : Bool). length (logOf move (onward f (r .answer)) (r .device)) ≤ size c) (on-device move _ p same s)
+      (onward-fine (r .answer) .logs .most move (r .device))
 
   fine-stage : (m : ℕ) (check : Bool) {p : Prog (Left A)} → Fine LeftOff m p
       → always (λ left. left .device .link .check ≡ check) p
@@ -103,9 +104,9 @@ module _ {A B : Type 0} (f : BQ769x0 → Prog (Left B)) (size : Bool → ℕ)
     quits = quits-bind (onward f) (h .quits) (λ left. onward-fine left .quits) onward-off;
     short = asks-bind (onward f) (h .short) (λ left. onward-fine left .short);
     logs = record {
-      most = λ w.
-          let rest = onward-log check p same w in
-          rw (log-bind p (onward f) w, length-append) (omega (arith, h .logs .most w));
+      most = λ move s.
+          let rest = onward-log move check p same s in
+          rw (log-bind move p (onward f) s, length-append) (omega (arith, h .logs .most move s));
     };
   }
 

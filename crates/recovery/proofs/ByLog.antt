@@ -32,7 +32,7 @@ module _ {choose : Config → Answer InMv} {config : Config} {d : BQ769x0} {w : 
   p = initBy choose d config
 
   room : run .at .log + length (logOf onWire p w) ≤ length (run .log)
-  room = omega (arith, run .room, init-fine choose config d .logs .most w)
+  room = omega (arith, run .room, init-fine choose config d .logs .most onWire w)
 
   abbrev before : Bus
   before = busOf (run .tape) (run .log) (run .at)

@@ -6,6 +6,7 @@ pub mod Again
 pub mod Asked
 pub mod ByLog
 pub mod EachRegister
+pub mod Live
 pub mod OfBytes
 pub mod OnModel
 pub mod Demand3

@@ -1,0 +1,2 @@
+mod Small
+pub mod Calls

@@ -1,0 +1,156 @@
+/* The live header against a chip made here, as C and as C++: both builds, each size and reading, no fault and a fault at each transfer
+ * after each number of bytes. A call's answer, lists and log must be those of the same call on the tape that the chip's answers made. */
+#include "bq769x0_live.h"
+
+#include <stdio.h>
+#include <stdlib.h>
+#include <string.h>
+
+enum { ADDRESS = 8, FULL = 15, LAST = 8 };
+
+/* 256 registers; transfers are counted, and that of number fails_at ends after so many bytes. */
+struct chip {
+    uint8_t regs[256];
+    int check;
+    unsigned made, fails_at;
+    size_t after;
+};
+
+static unsigned long tried;
+
+static void must(int holds, const char *what) {
+    if (!holds) {
+        printf("live: %s is not as it should be\n", what);
+        exit(1);
+    }
+}
+
+static uint8_t crc(uint8_t sum, uint8_t byte) {
+    sum ^= byte;
+    for (int i = 0; i < 8; i++) sum = (uint8_t)(sum << 1 ^ (sum & 0x80 ? 0x07 : 0));
+    return sum;
+}
+
+/* The register and its data bytes, each with its check byte where the chip has them; a byte cut off is not stored. */
+static int chip_write(void *context, uint8_t address, const uint8_t *bytes, size_t count) {
+    struct chip *chip = (struct chip *)context;
+    int fails = ++chip->made == chip->fails_at;
+    size_t came = fails && chip->after < count ? chip->after : count, width = chip->check ? 2 : 1;
+    uint8_t sum = crc(crc(0, (uint8_t)(ADDRESS << 1)), bytes[0]);
+    must(address == ADDRESS && count > 1, "the address or the length of a write");
+    for (size_t i = 1; i + width <= came; i += width) {
+        if (chip->check) must(bytes[i + 1] == crc(sum, bytes[i]), "a check byte sent");
+        chip->regs[(uint8_t)(bytes[0] + (i - 1) / width)] = bytes[i];
+        sum = 0;
+    }
+    return fails;
+}
+
+static int chip_read(void *context, uint8_t address, uint8_t reg, uint8_t *bytes, size_t count, size_t *delivered) {
+    struct chip *chip = (struct chip *)context;
+    int fails = ++chip->made == chip->fails_at;
+    uint8_t sum = crc(0, ADDRESS << 1 | 1);
+    must(address == ADDRESS, "the address of a read");
+    *delivered = fails && chip->after < count ? chip->after : count;
+    for (size_t i = 0; i < *delivered; i++) {
+        if (chip->check && i % 2 == 1) {
+            bytes[i] = crc(sum, bytes[i - 1]);
+            sum = 0;
+        } else {
+            bytes[i] = chip->regs[(uint8_t)(reg + (chip->check ? i / 2 : i))];
+        }
+    }
+    return fails;
+}
+
+/* Gain 380, offset -20, 05 with two bits that must stay, and inputs from 8000 up. */
+static struct chip chip_of(int check) {
+    struct chip chip;
+    memset(&chip, 0, sizeof chip);
+    chip.check = check;
+    chip.regs[0x50] = 0x04;
+    chip.regs[0x51] = 0xEC;
+    chip.regs[0x59] = 0xE0;
+    chip.regs[0x05] = 0x03;
+    for (int i = 0; i < FULL; i++) {
+        chip.regs[0x0C + 2 * i] = (uint8_t)((8000 + 177 * i) / 256);
+        chip.regs[0x0D + 2 * i] = (uint8_t)((8000 + 177 * i) % 256);
+    }
+    return chip;
+}
+
+struct outcome {
+    uint8_t number, inputs[FULL], list[4 * FULL], out[BQ769X0_OUT], log[BQ769X0_LIVE_LOG];
+};
+
+static struct outcome blank(void) {
+    struct outcome o;
+    memset(&o, 0xC3, sizeof o);
+    return o;
+}
+
+/* The call on the chip; and on the tape that it left. */
+static struct outcome on_bus(const uint8_t *job, int reading, size_t cells, const struct bq769x0_bus *bus, struct bq769x0_live *live) {
+    struct outcome o = blank();
+    if (reading == 0)
+        o.number = bq769x0_live_init(job, 34, bus, live, o.out);
+    else if (reading == 1)
+        o.number = bq769x0_live_init_wired(job, 34, bus, live, o.inputs, cells, o.list, 4 * cells, o.out);
+    else
+        o.number = bq769x0_live_init_cells(job, 34, bus, live, o.list, 4 * cells, o.out);
+    memcpy(o.log, live->log, live->log_len);
+    return o;
+}
+
+static struct outcome on_tape(const uint8_t *job, int reading, size_t cells, const struct bq769x0_live *live) {
+    struct outcome o = blank();
+    if (reading == 0)
+        o.number = bq769x0_init(job, 34, live->tape, live->tape_len, o.log, sizeof o.log, o.out);
+    else if (reading == 1)
+        o.number = bq769x0_init_wired(job, 34, live->tape, live->tape_len, o.log, sizeof o.log, o.inputs, cells, o.list, 4 * cells, o.out);
+    else
+        o.number = bq769x0_init_cells(job, 34, live->tape, live->tape_len, o.log, sizeof o.log, o.list, 4 * cells, o.out);
+    return o;
+}
+
+/* One call: as on its tape; with no fault accepted, the chip set up and the cells read; with one refused, at that transfer. */
+static void call(int x, int check, int reading, unsigned fails_at, size_t after) {
+    const uint8_t job[34] = {0x20, 0, 4, (uint8_t)x, (uint8_t)x, ADDRESS, (uint8_t)check, 0x21, 0, 24, 0, 0, 3, 0xE8, 0, 0, 0, 50,
+                             0,    0, 0, 20, 0, 0, 0x0A, 0xF0, 0, 0, 0x10, 0x68, 2, 5, 1, 1};
+    static const uint8_t six[6] = {0x13, 0x55, 0x50, 0xB6, 0xCF, 0x19};
+    struct chip chip = chip_of(check);
+    struct bq769x0_live live;
+    struct outcome made, again;
+    unsigned transfers = (check ? 5u : 7u) + (reading != 0);
+    chip.fails_at = fails_at;
+    chip.after = after;
+    {
+        const struct bq769x0_bus bus = {&chip, chip_write, chip_read};
+        made = on_bus(job, reading, (size_t)x, &bus, &live);
+    }
+    again = on_tape(job, reading, (size_t)x, &live);
+    must(memcmp(&made, &again, sizeof made) == 0, "a call on the bus, beside the same on its tape,");
+    must(bq769x0_u64(made.out + BQ769X0_TAPE_USED) == live.tape_len, "the tape's length");
+    must(bq769x0_u64(made.out + BQ769X0_LOG_USED) == live.log_len, "the log's length");
+    if (fails_at == 0 || fails_at > transfers) {
+        must(made.number == BQ769X0_OK && chip.made == transfers, "a call without a fault");
+        must(memcmp(chip.regs + 6, six, sizeof six) == 0 && chip.regs[5] == 0x43, "the chip after an init");
+        for (int i = 0; reading == 1 && i < x; i++)
+            must(made.inputs[i] == i + 1 && bq769x0_millivolts(made.list, (size_t)i) == (8000 + 177 * i) * 380 / 1000 - 20, "a cell");
+    } else {
+        must((made.number == BQ769X0_I2C_ERROR || made.number == BQ769X0_CRC_MISMATCH) && chip.made == fails_at, "a call with a fault");
+    }
+    tried++;
+}
+
+int main(void) {
+    for (int x = 5; x <= FULL; x += 5)
+        for (int check = 0; check <= 1; check++)
+            for (int reading = 0; reading <= 2; reading++) {
+                call(x, check, reading, 0, 0);
+                for (unsigned at = 1; at <= LAST + 1; at++)
+                    for (size_t after = 0; after <= 61; after++) call(x, check, reading, at, after);
+            }
+    printf("live: %lu calls as they should be\n", tried);
+    return 0;
+}
