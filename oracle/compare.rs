@@ -21,7 +21,7 @@ const GIVEN: u64 = 3;
 fn ported(programs: &str, bytes: &[u8]) -> String {
     let program = if job::is_given(bytes) { "staterun" } else { "callrun" };
     let mut command = Command::new(format!("{programs}/{program}"));
-    let mut child = command.stdin(Stdio::piped()).stdout(Stdio::piped()).spawn().expect("the program starts");
+    let mut child = command.stdin(Stdio::piped()).stdout(Stdio::piped()).stderr(Stdio::null()).spawn().expect("the program starts");
     // Of a job over 32,768 bytes the rest may find no reader.
     let _ = child.stdin.take().unwrap().write_all(bytes);
     let output = child.wait_with_output().expect("the program ends");

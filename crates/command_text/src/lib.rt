@@ -4,6 +4,7 @@ use bus::Cursor;
 use bus::link::Raw;
 use bus::link::RawAnswer;
 use commands::balancing;
+use commands::by_record;
 use commands::control;
 use commands::control::SourceAnswer;
 use commands::control::TemperatureSource;
@@ -119,7 +120,7 @@ fn read_into(
     log: &mut [u8],
     at: Cursor,
 ) -> Cursor {
-    let read = device.read_raw(reg, data, tape, log, at);
+    let read = by_record::read_raw(device, reg, data, tape, log, at);
     let next = lines::raw(read, log, at);
     lines::bytes(b"data", data);
     next
@@ -158,7 +159,7 @@ fn set(
         0x2E => control::enable_adc(device, first == 1, tape, log, at),
         0x2F => control::set_temperature_source(device, source(first), tape, log, at),
         0x31 => counter::coulomb_counter_mode(device, mode(first), tape, log, at),
-        0x33 => device.write_raw(first, rest, tape, log, at),
+        0x33 => by_record::write_raw(device, first, rest, tape, log, at),
         _ => Raw {
             answer: RawAnswer::Refused(Error::BadTape),
             at,

@@ -14,8 +14,9 @@ pub fn transfers(log: &[u8], at: Cursor, next: Cursor) {
     fields::between(log, at.log, next.log);
 }
 
-// A refusal's number, and as many of the two figures as it names.
+// A refusal's number, and as many of the two figures as it names; its name goes to standard error.
 pub fn refused(e: Error) {
+    named(e);
     let numbers = e.in_numbers();
     text::words(b"refused");
     text::number(numbers.0 as u64);
@@ -26,6 +27,32 @@ pub fn refused(e: Error) {
         text::number(numbers.3 as u64);
     }
     text::words(b"\n");
+}
+
+fn named(e: Error) {
+    match e {
+        Error::CRCMismatch => text::aside(b"CRCMismatch\n"),
+        Error::I2CError => text::aside(b"I2CError\n"),
+        Error::BufTooLarge => text::aside(b"BufTooLarge\n"),
+        Error::Uninitialized => text::aside(b"Uninitialized\n"),
+        Error::VerifyError(_) => text::aside(b"VerifyError\n"),
+        Error::OCDSCDRangeMismatch => text::aside(b"OCDSCDRangeMismatch\n"),
+        Error::UVThresholdUnobtainable(_, _) => text::aside(b"UVThresholdUnobtainable\n"),
+        Error::OVThresholdUnobtainable(_, _) => text::aside(b"OVThresholdUnobtainable\n"),
+        Error::BadDevice => text::aside(b"BadDevice\n"),
+        Error::BadCellCount => text::aside(b"BadCellCount\n"),
+        Error::BadAddress => text::aside(b"BadAddress\n"),
+        Error::BadShunt => text::aside(b"BadShunt\n"),
+        Error::CurrentTooLarge => text::aside(b"CurrentTooLarge\n"),
+        Error::RegisterRunsOut => text::aside(b"RegisterRunsOut\n"),
+        Error::BadTape => text::aside(b"BadTape\n"),
+        Error::TapeEnded => text::aside(b"TapeEnded\n"),
+        Error::LogFull => text::aside(b"LogFull\n"),
+        Error::UnknownFlags => text::aside(b"UnknownFlags\n"),
+        Error::NoRoom => text::aside(b"NoRoom\n"),
+        Error::UnknownRange => text::aside(b"UnknownRange\n"),
+        Error::NoSuchInput => text::aside(b"NoSuchInput\n"),
+    }
 }
 
 // What an init reports, or what it refuses with.

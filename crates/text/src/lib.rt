@@ -1,8 +1,14 @@
-// What the programs print on standard output: words and numbers.
+// What the programs print on standard output: words and numbers; and words aside, on standard error.
+use libc::STDERR_FILENO;
 use libc::STDOUT_FILENO;
 
 pub fn words(text: &[u8]) {
     io::write_all(STDOUT_FILENO, text);
+}
+
+// For a person, beside what is printed.
+pub fn aside(text: &[u8]) {
+    io::write_all(STDERR_FILENO, text);
 }
 
 fn digit(d: u8) -> u8 {
