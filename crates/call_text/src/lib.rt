@@ -1,25 +1,23 @@
-// The calls of a bench job on its tape: each one's transfers and its answer printed, and the record last of all.
-use bq769x0::BQ769x0;
-use bus::Cursor;
+// The calls of a bench job: each one's transfers and its answer printed, and the record last of all.
+use crate::state::State;
 use calls::FieldAnswer;
-use reading_text::crate_list;
-use reading_text::measure;
-use reading_text::state::State;
-use reading_text::wired;
 
-mod init;
+mod making;
+mod registers;
+mod showing;
+pub mod state;
 
 // The calls on a record, a log and a cursor, and what they leave.
 pub fn print(input: &[u8], tape_at: usize, state: State, log: &mut [u8]) {
     if input.len() < tape_at {
         return;
     }
-    let left = each(input, &input[tape_at..], state, log);
+    let left = in_turn(input, &input[tape_at..], state, log);
     left.print();
 }
 
-// The calls in turn; one record, one tape, one log.
-fn each(input: &[u8], tape: &[u8], state: State, log: &mut [u8]) -> State {
+// One record, one tape, one log.
+pub fn in_turn(input: &[u8], tape: &[u8], state: State, log: &mut [u8]) -> State {
     let mut state = state;
     let mut place = calls::CALLS_AT;
     while place < input.len() {
@@ -40,35 +38,24 @@ fn each(input: &[u8], tape: &[u8], state: State, log: &mut [u8]) -> State {
     state
 }
 
-// Only setting up and reading the cells change the record.
 fn call(tag: u8, value: &[u8], state: State, tape: &[u8], log: &mut [u8]) -> State {
-    match tag {
-        0x21 => init::init(value, state, tape, log),
-        0x22 => crate_list::cells(value, state, tape, log),
-        0x34 => wired::wired(value, state, tape, log),
-        _ => {
-            let device = state.device;
-            let at = state.at;
-            let next = other(tag, value, device, tape, log, at);
-            state.after(device, next)
-        }
+    let device = state.device;
+    let at = state.at;
+    let made = making::make(tag, value, device, tape, log, at);
+    let told = made.told;
+    let device = made.device;
+    let next = made.at;
+    let lent = made.lent;
+    let prints = state.prints;
+    if prints.answers() {
+        lines::transfers(log, at, next);
+        showing::show(
+            told,
+            lent,
+            value,
+            device.cell_count as usize,
+            prints.lists(),
+        );
     }
-}
-
-fn other(
-    tag: u8,
-    value: &[u8],
-    device: BQ769x0,
-    tape: &[u8],
-    log: &mut [u8],
-    at: Cursor,
-) -> Cursor {
-    match tag {
-        0x23..=0x25 => measure::call(tag, device, tape, log, at),
-        0x35 => {
-            wired::cell_on(value);
-            at
-        }
-        _ => command_text::call(tag, value, device, tape, log, at),
-    }
+    state.after(device, next)
 }

@@ -2,9 +2,10 @@
 use bq769x0::BQ769x0;
 use bq769x0::record::NewAnswer;
 use bus::Cursor;
+use call_text::state::Prints;
+use call_text::state::State;
 use calls::HeadAnswer;
 use calls::Heading;
-use reading_text::state::State;
 
 fn main() {
     let mut input = [0u8; 32768];
@@ -38,7 +39,7 @@ fn run(input: &[u8], tape_at: usize, device: BQ769x0) {
     let state = State {
         device,
         at,
-        lists: false,
+        prints: Prints::Answers,
     };
     let mut log = [0u8; 65536];
     call_text::print(input, tape_at, state, &mut log);

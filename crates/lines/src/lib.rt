@@ -1,8 +1,5 @@
 // The lines of one call: its transfers, and what it answered.
-ghost use mathlib.Core.Path.{_≡_};
 use bus::Cursor;
-use bus::link::Raw;
-use bus::link::RawAnswer;
 use plan::InitAnswer;
 use plan::answer::InitNumbers;
 use refusals::Error;
@@ -89,20 +86,6 @@ pub fn signed_number(name: &[u8], n: i32) {
     text::words(b"\n");
 }
 
-// A call that answers no more than that it is done.
-pub fn raw(made: Raw, log: &[u8], at: Cursor) -> Cursor
-    ensures { λ r. ⌜ r ≡ made .at ⌝ }
-{
-    let answer = made.answer;
-    let next = made.at;
-    transfers(log, at, next);
-    match answer {
-        RawAnswer::Done => text::words(b"done\n"),
-        RawAnswer::Refused(e) => refused(e),
-    }
-    next
-}
-
 fn wide(n: u32) -> u64 {
     n as u64
 }
@@ -124,11 +107,13 @@ fn whole(n: u8) -> u64 {
     n as u64
 }
 
-pub fn small_numbers(name: &[u8], list: &[u8]) {
+pub fn small_numbers(name: &[u8], list: &[u8], count: usize) {
     text::words(name);
     let mut i = 0;
     while i < list.len() {
-        text::number(whole(list[i]));
+        if i < count {
+            text::number(whole(list[i]));
+        }
         i += 1;
     }
     text::words(b"\n");
@@ -155,11 +140,13 @@ pub fn pairs(name: &[u8], first: &[u8], second: &[u32], count: usize) {
     text::words(b"\n");
 }
 
-pub fn bytes(name: &[u8], bytes: &[u8]) {
+pub fn bytes(name: &[u8], bytes: &[u8], count: usize) {
     text::words(name);
     let mut i = 0;
     while i < bytes.len() {
-        text::hex(bytes[i]);
+        if i < count {
+            text::hex(bytes[i]);
+        }
         i += 1;
     }
     text::words(b"\n");

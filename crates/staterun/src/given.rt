@@ -8,10 +8,11 @@ use bq769x0::BQ769x0;
 use bq769x0::Readings;
 use bus::Cursor;
 use bus::link::Link;
+use call_text::state::Prints;
+use call_text::state::State;
 use calls::HeadAnswer;
 use calls::Heading;
 use job::Device;
-use reading_text::state::State;
 use refusals::Error;
 use units::MicroOhms;
 use units::MilliVolts;
@@ -72,7 +73,7 @@ fn state_of(asked: Device, value: &[u8]) -> State
     State {
         device,
         at,
-        lists: true,
+        prints: Prints::Lists,
     }
 }
 
@@ -121,5 +122,5 @@ fn run(value: &[u8], job: &[u8], heading: Heading)
 // The calls, and the log they leave.
 fn with_log(job: &[u8], tape_at: usize, state: State, log: &mut [u8]) {
     call_text::print(job, tape_at, state, log);
-    lines::bytes(b"log", log);
+    lines::bytes(b"log", log, log.len());
 }

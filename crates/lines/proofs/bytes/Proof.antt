@@ -6,10 +6,10 @@ use Rattle.lines.proofs.bytes.Statement.{statement}
 use Rattle.lines.proofs.bytes.Tie as tie
 
 abbrev Inv-loop : tie.InvT-loop
-Inv-loop name bytes i₀ t4 i = Unit {0}
+Inv-loop name bytes count i₀ t5 i = Unit {0}
 
 abbrev μ-loop : tie.MeasureT-loop
-μ-loop name bytes i₀ t4 i = length bytes - i
+μ-loop name bytes count i₀ t5 i = length bytes - i
 
 words-requires : tie.Need-words-requires Inv-loop μ-loop
 words-requires c κs = search needs

@@ -6,10 +6,10 @@ use Rattle.lines.proofs.small_numbers.Statement.{statement}
 use Rattle.lines.proofs.small_numbers.Tie as tie
 
 abbrev Inv-loop : tie.InvT-loop
-Inv-loop name list i₀ t4 i = Unit {0}
+Inv-loop name list count i₀ t5 i = Unit {0}
 
 abbrev μ-loop : tie.MeasureT-loop
-μ-loop name list i₀ t4 i = length list - i
+μ-loop name list count i₀ t5 i = length list - i
 
 words-requires : tie.Need-words-requires Inv-loop μ-loop
 words-requires c κs = search needs

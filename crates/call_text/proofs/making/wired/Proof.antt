@@ -1,9 +1,12 @@
--- `reading_text::wired::wired` lends the parts of the two lists that are asked for. Assumes nothing.
+-- `call_text::making::wired` lends the parts of the two lists that are asked for. Assumes nothing.
 use mathlib.Core.Path.{sym}
 use lib.Seq.{length-take-le}
 use borrow.Author.Needs.{needs}
-use Rattle.reading_text.proofs.wired.wired.Statement.{statement}
-use Rattle.reading_text.proofs.wired.wired.Tie as tie
+use Rattle.call_text.proofs.making.wired.Statement.{statement}
+use Rattle.call_text.proofs.making.wired.Tie as tie
+
+not-made-requires : tie.Need-not-made-requires
+not-made-requires c κs = search needs
 
 returns : tie.Need-returns
 returns c = search needs
@@ -23,17 +26,20 @@ size-requires-2 c κs = search needs
 array-borrow-prefix-inputs : tie.Need-array-borrow-prefix-inputs
 array-borrow-prefix-inputs c = search needs
 
-slice-aggregate-wired-into : tie.Need-slice-aggregate-wired-into
-slice-aggregate-wired-into c = sym (length-take-le _ _ (c .before .before .before .size .ensures))
+slice-aggregate-wired : tie.Need-slice-aggregate-wired
+slice-aggregate-wired c = sym (length-take-le _ _ (c .before .before .before .size .ensures))
 
 array-borrow-prefix-list : tie.Need-array-borrow-prefix-list
 array-borrow-prefix-list c = search needs
 
-slice-aggregate-wired-into-2 : tie.Need-slice-aggregate-wired-into-2
-slice-aggregate-wired-into-2 c = sym (length-take-le _ _ (c .before .before .size2 .ensures))
+slice-aggregate-wired-2 : tie.Need-slice-aggregate-wired-2
+slice-aggregate-wired-2 c = sym (length-take-le _ _ (c .before .before .size2 .ensures))
 
-wired-into-requires : tie.Need-wired-into-requires
-wired-into-requires c κs = search needs
+wired-requires : tie.Need-wired-requires
+wired-requires c κs = search needs
+
+fresh-requires : tie.Need-fresh-requires
+fresh-requires c κs = search needs
 
 same-length : tie.Need-same-length
 same-length c = search needs
@@ -45,15 +51,17 @@ pub wired-spec : {M : Type 1} → statement M
 wired-spec =
     tie.close
     (tie.spec
+    not-made-requires
     returns
     shared-slice-read-size
     size-requires
     shared-slice-read-size-2
     size-requires-2
     array-borrow-prefix-inputs
-    slice-aggregate-wired-into
+    slice-aggregate-wired
     array-borrow-prefix-list
-    slice-aggregate-wired-into-2
-    wired-into-requires
+    slice-aggregate-wired-2
+    wired-requires
+    fresh-requires
     same-length
     returns-2)

@@ -1,8 +1,8 @@
--- `reading_text::state::wide` widens a number that fits. Assumes nothing.
+-- `call_text::state::wide` widens a number that fits. Assumes nothing.
 use mir.Facts.{toZ-ofZ, sfits-widen}
 use borrow.Author.Needs.{needs}
-use Rattle.reading_text.proofs.state.wide.Statement.{statement}
-use Rattle.reading_text.proofs.state.wide.Tie as tie
+use Rattle.call_text.proofs.state.wide.Statement.{statement}
+use Rattle.call_text.proofs.state.wide.Tie as tie
 
 cast-result : tie.Need-cast-result
 cast-result c = simp (toZ-ofZ (c .fits .z)) (sfits-widen tt (c .fits .z))

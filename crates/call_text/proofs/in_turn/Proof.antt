@@ -1,4 +1,4 @@
--- `call_text::each` ends: each field is longer than nothing, and lies within the input. Assumes nothing.
+-- `call_text::in_turn` ends: each field is longer than nothing, and lies within the input. Assumes nothing.
 use mathlib.Core.Path.{_≡_, sym, ap, _∙_}
 use Prim.Native.Nat.{ℕ, _-_}
 use native.Mathlib.Omega.{arith}
@@ -9,8 +9,8 @@ use borrow.Author.Needs.{needs}
 use Rattle.refusals.specs.Refusal.{value}
 use Rattle.calls.specs.Heads.{fieldAt, asField}
 use Rattle.calls.proofs.Steps.{starts, inside}
-use Rattle.call_text.proofs.each.Statement.{statement}
-use Rattle.call_text.proofs.each.Tie as tie
+use Rattle.call_text.proofs.in_turn.Statement.{statement}
+use Rattle.call_text.proofs.in_turn.Tie as tie
 
 abbrev Inv-loop : tie.InvT-loop
 Inv-loop input tape log₀ state₀ place₀ log state place = length log ≡ length log₀
@@ -96,8 +96,8 @@ same-length-3 c = search needs
 returns-3 : tie.Need-returns-3 Inv-loop μ-loop
 returns-3 c = search needs
 
-pub each-spec : {M : Type 1} → statement M
-each-spec =
+pub in-turn-spec : {M : Type 1} → statement M
+in-turn-spec =
     tie.close
     (tie.spec
     Inv-loop

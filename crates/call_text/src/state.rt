@@ -4,10 +4,35 @@ use bq769x0::BQ769x0;
 use bus::Cursor;
 use units::MilliVolts;
 
+// What is printed of each call.
+pub enum Prints {
+    Nothing,
+    Answers,
+    Lists, // the answers, and the lent lists whole
+}
+
+impl Prints {
+    pub(crate) fn answers(self) -> bool {
+        match self {
+            Prints::Nothing => false,
+            Prints::Answers => true,
+            Prints::Lists => true,
+        }
+    }
+
+    pub(crate) fn lists(self) -> bool {
+        match self {
+            Prints::Nothing => false,
+            Prints::Answers => false,
+            Prints::Lists => true,
+        }
+    }
+}
+
 pub struct State {
     pub device: BQ769x0,
     pub at: Cursor,
-    pub lists: bool, // whether a cell call prints the whole of its list too
+    pub prints: Prints,
 }
 
 fn bit(b: bool) -> u64 {
@@ -29,13 +54,10 @@ fn cells(cells: [MilliVolts; 15]) {
 
 impl State {
     pub fn after(self, device: BQ769x0, at: Cursor) -> State
-        ensures { λ r. ⌜ (r .device ≡ device) × (r .at ≡ at) × (r .lists ≡ self .lists) ⌝ }
+        ensures { λ r. ⌜ (r .device ≡ device) × (r .at ≡ at) × (r .prints ≡ self .prints) ⌝ }
     {
-        State {
-            device,
-            at,
-            lists: self.lists,
-        }
+        let prints = self.prints;
+        State { device, at, prints }
     }
 
     pub fn print(self) {

@@ -1,8 +1,8 @@
--- `reading_text::state::cells` ends. Assumes nothing.
+-- `call_text::state::cells` ends. Assumes nothing.
 use Prim.Native.Nat.{_-_}
 use borrow.Author.Needs.{needs}
-use Rattle.reading_text.proofs.state.cells.Statement.{statement}
-use Rattle.reading_text.proofs.state.cells.Tie as tie
+use Rattle.call_text.proofs.state.cells.Statement.{statement}
+use Rattle.call_text.proofs.state.cells.Tie as tie
 
 abbrev Inv-loop : tie.InvT-loop
 Inv-loop cells i₀ i = Unit {0}

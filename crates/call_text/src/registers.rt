@@ -1,4 +1,9 @@
-// The register commands, and registers read and written as they are: each made by its field, and printed.
+// The register commands, and registers read and written as they are.
+use crate::making::Lent;
+use crate::making::Made;
+use crate::making::Told;
+use crate::making::answered;
+use crate::making::not_made;
 use bq769x0::BQ769x0;
 use bus::Cursor;
 use bus::link::Raw;
@@ -6,28 +11,23 @@ use bus::link::RawAnswer;
 use commands::balancing;
 use commands::by_record;
 use commands::control;
-use commands::control::SourceAnswer;
 use commands::control::TemperatureSource;
 use commands::counter;
 use commands::counter::CoulombCounterMode;
-use commands::register::ByteAnswer;
 use commands::ship;
 use commands::status;
-use commands::status::StatAnswer;
 use commands::switches;
-use commands::switches::FlagAnswer;
 use refusals::Error;
 use units::flags::SysStat;
 
-// The call of a field, whose value fits it.
-pub fn call(
+pub(crate) fn make(
     tag: u8,
     value: &[u8],
     device: BQ769x0,
     tape: &[u8],
     log: &mut [u8],
     at: Cursor,
-) -> Cursor {
+) -> Made {
     match tag {
         0x27 => balancing_state(device, tape, log, at),
         0x28 => sys_stat(device, tape, log, at),
@@ -39,91 +39,65 @@ pub fn call(
     }
 }
 
-fn balancing_state(device: BQ769x0, tape: &[u8], log: &mut [u8], at: Cursor) -> Cursor {
+fn balancing_state(device: BQ769x0, tape: &[u8], log: &mut [u8], at: Cursor) -> Made {
     let read = balancing::balancing_state(device, tape, log, at);
     let answer = read.answer;
-    let next = read.at;
-    lines::transfers(log, at, next);
-    match answer {
-        ByteAnswer::Byte(cells) => lines::number(b"balancing", cells as u64),
-        ByteAnswer::Refused(e) => lines::refused(e),
-    }
-    next
+    let at = read.at;
+    answered(Told::Balancing(answer), device, at)
 }
 
-fn sys_stat(device: BQ769x0, tape: &[u8], log: &mut [u8], at: Cursor) -> Cursor {
+fn sys_stat(device: BQ769x0, tape: &[u8], log: &mut [u8], at: Cursor) -> Made {
     let read = status::sys_stat(device, tape, log, at);
     let answer = read.answer;
-    let next = read.at;
-    lines::transfers(log, at, next);
-    match answer {
-        StatAnswer::Status(stat) => lines::number(b"status", stat.bits as u64),
-        StatAnswer::Refused(e) => lines::refused(e),
-    }
-    next
+    let at = read.at;
+    answered(Told::Status(answer), device, at)
 }
 
-fn is_charge_enabled(device: BQ769x0, tape: &[u8], log: &mut [u8], at: Cursor) -> Cursor {
+fn is_charge_enabled(device: BQ769x0, tape: &[u8], log: &mut [u8], at: Cursor) -> Made {
     let read = switches::is_charge_enabled(device, tape, log, at);
     let answer = read.answer;
-    let next = read.at;
-    lines::transfers(log, at, next);
-    match answer {
-        FlagAnswer::Flag(on) => lines::number(b"charging", if on { 1 } else { 0 }),
-        FlagAnswer::Refused(e) => lines::refused(e),
-    }
-    next
+    let at = read.at;
+    answered(Told::Charging(answer), device, at)
 }
 
-fn temperature_source(device: BQ769x0, tape: &[u8], log: &mut [u8], at: Cursor) -> Cursor {
+fn temperature_source(device: BQ769x0, tape: &[u8], log: &mut [u8], at: Cursor) -> Made {
     let read = control::temperature_source(device, tape, log, at);
     let answer = read.answer;
-    let next = read.at;
-    lines::transfers(log, at, next);
-    match answer {
-        SourceAnswer::Source(source) => source_line(source),
-        SourceAnswer::Refused(e) => lines::refused(e),
-    }
-    next
+    let at = read.at;
+    answered(Told::Source(answer), device, at)
 }
 
-fn source_line(source: TemperatureSource) {
-    match source {
-        TemperatureSource::InternalDie => text::words(b"source die\n"),
-        TemperatureSource::ExternalThermistor => text::words(b"source thermistor\n"),
-    }
+fn ship_enter(device: BQ769x0, tape: &[u8], log: &mut [u8], at: Cursor) -> Made {
+    done(ship::ship_enter(device, tape, log, at), device)
 }
 
-fn ship_enter(device: BQ769x0, tape: &[u8], log: &mut [u8], at: Cursor) -> Cursor {
-    let made = ship::ship_enter(device, tape, log, at);
-    lines::raw(made, log, at)
+fn done(raw: Raw, device: BQ769x0) -> Made {
+    let answer = raw.answer;
+    let at = raw.at;
+    answered(Told::Done(answer), device, at)
 }
 
 // The buffer is AA throughout, and as long as the value says.
-fn read_raw(value: &[u8], device: BQ769x0, tape: &[u8], log: &mut [u8], at: Cursor) -> Cursor {
+fn read_raw(value: &[u8], device: BQ769x0, tape: &[u8], log: &mut [u8], at: Cursor) -> Made {
     if value.len() != 3 {
-        return at;
+        return not_made(device, at);
     }
     let n = numbers::be_u16(value[1], value[2]) as usize;
     if 512 < n {
-        return at;
+        return not_made(device, at);
     }
     let mut data = [0xAAu8; 512];
-    read_into(value[0], &mut data[..n], device, tape, log, at)
-}
-
-fn read_into(
-    reg: u8,
-    data: &mut [u8],
-    device: BQ769x0,
-    tape: &[u8],
-    log: &mut [u8],
-    at: Cursor,
-) -> Cursor {
-    let read = by_record::read_raw(device, reg, data, tape, log, at);
-    let next = lines::raw(read, log, at);
-    lines::bytes(b"data", data);
-    next
+    let read = by_record::read_raw(device, value[0], &mut data[..n], tape, log, at);
+    let answer = read.answer;
+    let at = read.at;
+    let mut lent = Lent::fresh();
+    lent.data = data;
+    Made {
+        told: Told::Data(answer),
+        device,
+        at,
+        lent,
+    }
 }
 
 fn command(
@@ -133,12 +107,12 @@ fn command(
     tape: &[u8],
     log: &mut [u8],
     at: Cursor,
-) -> Cursor {
+) -> Made {
     if value.len() == 0 {
-        return at;
+        return not_made(device, at);
     }
-    let made = set(tag, value[0], &value[1..], device, tape, log, at);
-    lines::raw(made, log, at)
+    let raw = set(tag, value[0], &value[1..], device, tape, log, at);
+    done(raw, device)
 }
 
 // By the first byte of the value.
