@@ -1,4 +1,6 @@
 pub mod Adequate
+pub mod Agree
+mod Answering
 pub mod Answers
 pub mod Asks
 pub mod Devices

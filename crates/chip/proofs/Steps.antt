@@ -6,10 +6,10 @@ use mathlib.Core.List.{List, [], _∷_, _++_}
 use Prim.Native.Nat.{ℕ, zero, suc, _+_, _-_, _*_, _/_, _%_, _≤_, _<_}
 use native.Mathlib.Numerals.{add-one, add-two}
 use native.Mathlib.Omega.{arith}
-use lib.ListN.{length, take, drop, getD, set, drop-of-length-le, length-drop}
-use lib.Seq.{drop-cons, getD-take, take-suc, take-suc-set}
+use lib.ListN.{length, drop, getD, set, drop-of-length-le, length-drop}
+use lib.Seq.{drop-cons, getD-take}
 use lib.Bits.{bitAnd}
-use lib.Dec.{eqb, leb}
+use lib.Dec.{eqb, leb, eqb·suc-suc}
 use borrow.Author.Tests.{eq-eqb, ne-eqb, leb-true, leb-false}
 use Rattle.check_byte.specs.CheckByte.{checkByte}
 use Rattle.frames.specs.Frames.{readByte, checked, framed, readFrame}
@@ -58,10 +58,10 @@ module _ (c : Chip) (r i : ℕ) (h : r + begun (c .check) (i + 1) ≤ 256) where
   place-checked e = omega (arith, rw e at h)
 
 -- of n bytes that begin no register past FF, the first ones do not either
-pub begun-more : (check : Bool) (r i n : ℕ) → i < n → r + begun check n ≤ 256 → r + begun check (i + 1) ≤ 256
+pub begun-fewer : (check : Bool) (r k n : ℕ) → k ≤ n → r + begun check n ≤ 256 → r + begun check k ≤ 256
 unfolding begun
-begun-more true r i n h room = omega arith
-begun-more false r i n h room = omega arith
+begun-fewer true r k n h room = omega arith
+begun-fewer false r k n h room = omega arith
 
 -- ---- without checks: a byte is stored, and then the rest
 module _ (r i : ℕ) (bytes regs : List ℕ) where
@@ -102,6 +102,29 @@ module _ (before l : List ℕ) (i : ℕ) where
 
     agreed-right : c ≡ getD l (i + 1) 0 → agreed before (drop i l) ≡ getD l i 0 ∷ agreed [] (drop (i + 2) l)
     agreed-right m = next-agreed h ∙ rw (eq-eqb _ _ (sym m ∙ e))
+
+-- whether every check byte that came is right
+abbrev pub allRight : List ℕ → List ℕ → Bool
+allRight before l = eqb (length (agreed before l)) (length l / 2)
+
+module _ (before l : List ℕ) (i : ℕ) where
+  pub right-end : length l ≤ i + 1 → true ≡ allRight before (drop i l)
+  right-end h =
+      sym (eq-eqb _ _ (ap length (agreed-end before l i h) ∙ omega (arith, length-drop i l)))
+
+  module _ (c : ℕ) (h : i + 1 < length l) (e : c ≡ checkByte (before ++ getD l i 0 ∷ [])) where
+    pub right-wrong : (c ≡ getD l (i + 1) 0 → ⊥) → false ≡ allRight before (drop i l)
+    right-wrong n =
+        let none = ap length (agreed-wrong before l i c h e n) in
+        sym (ne-eqb (length (agreed before (drop i l))) (length (drop i l) / 2) (λ same. omega (arith, none, length-drop i l)))
+
+    pub right-on : c ≡ getD l (i + 1) 0 → (i′ : ℕ) → i′ ≡ i + 2 → allRight [] (drop i′ l) ≡ allRight before (drop i l)
+    right-on m i′ at =
+        let half : length (drop i l) / 2 ≡ suc (length (drop (i + 2) l) / 2) =
+        omega (arith, length-drop i l, length-drop (i + 2) l) in
+        rw at (sym (ap (λ (v : List ℕ). eqb (length v) (length (drop i l) / 2)) (agreed-right before l i c h e m)
+        ∙ ap (eqb (suc (length (agreed [] (drop (i + 2) l))))) half
+        ∙ eqb·suc-suc (length (agreed [] (drop (i + 2) l))) (length (drop (i + 2) l) / 2)))
 
 -- the same of a chip
 module _ (c : Chip) (r : ℕ) (before l : List ℕ) (i : ℕ) where
@@ -204,11 +227,3 @@ module _ (c : Chip) (r n i : ℕ) (within : i < n) where
         let k = i / 2 - 1 in
         let half : i / 2 ≡ suc k = omega arith in
         rw half (shown-covered (suc k) (omega arith))
-
--- ---- one byte more of a read
-pub filled-one : (i v : ℕ) (out all : List ℕ)
-    → i < length out → length out ≡ length all → v ≡ getD all i 0 → take i out ≡ take i all
-    → take (i + 1) (set out i v) ≡ take (i + 1) all
-filled-one i v out all h same is before =
-    let there : i < length all = omega arith in
-    rw (add-one, take-suc-set out i v, take-suc all i 0, is, before)

@@ -1,26 +1,25 @@
--- What the code does with a whole transfer: the first byte of a write is the register, and what follows it is the data; a read fills
--- the caller's bytes.
+-- What the code does with a write: its first byte is the register, and what follows it is the data.
 -- Assumes nothing.
 use mathlib.Core.Path.{_≡_, refl, sym, ap, _∙_}
-use mathlib.Core.Bool.{Bool, true, false}
+use mathlib.Core.Bool.{Bool, true, false, _&&_}
 use mathlib.Core.List.{List, [], _∷_}
-use mathlib.Core.Option.{Option, none}
+use mathlib.Core.Option.{Option, none, some}
 use Prim.Native.Nat.{ℕ, suc, _+_, _-_, _≤_, _<_}
 use native.Mathlib.Omega.{arith}
 use lib.ListN.{length, take, drop, getD}
 use lib.Seq.{take-length}
-use lib.Dec.{leb}
-use borrow.Author.Tests.{leb-true}
+use lib.Dec.{eqb, leb}
+use borrow.Author.Tests.{leb-true, eq-eqb}
 use Rattle.frames.specs.Frames.{writeByte}
-use Rattle.frames.specs.Put.{put}
-use Rattle.frames.proofs.Put.{put-none, put-all}
-use Rattle.bus.specs.Transfers.{Transfer, write, read, Outcome}
-use Rattle.chip.specs.Devices.{Reached}
-use Rattle.chip.specs.Chip.{withRegs, begun, stores, accepted, storedOf, written, shows}
-use Rattle.chip.specs.Chip.{answers, carried, respondCut, respond, delivered}
+use Rattle.laws.specs.Choice.{if_then_else_}
+use Rattle.bus.specs.Transfers.{Transfer, write, Outcome, done, fault}
+use Rattle.chip.specs.Answering.{saying}
+use Rattle.chip.specs.Devices.{Reached, reached}
+use Rattle.chip.specs.Chip.{withRegs, begun, complete, stores, accepted, storedOf, written, acknowledged}
+use Rattle.chip.specs.Chip.{answers, carried, respondCut}
 use Rattle.chip.specs.declared.Chip.{Chip}
 use Rattle.chip.proofs.Answers.{own-empty, own-write, responds, unanswered}
-use Rattle.chip.proofs.Shows.{length-shows}
+use Rattle.chip.proofs.Steps.{allRight}
 
 -- what follows the first byte
 abbrev pub rest : List ℕ → List ℕ
@@ -79,18 +78,46 @@ module _ (cut : Option ℕ) (c : Chip) (t : Transfer) where
   pub device-off : answers c t ≡ false → c ≡ respondCut cut c t .device
   device-off away = sym (ap (λ (x : Reached Chip Outcome). x .device) (unanswered cut c t away))
 
--- ---- a read
-module _ (c : Chip) (r : ℕ) (out : List ℕ) where
-  abbrev asked : Transfer
-  asked = read (c .address) r (length out)
+-- ---- how a write is answered
+module _ (c : Chip) (l : List ℕ) where
+  pub acknowledged-none : length l ≡ 0 → true ≡ acknowledged c l
+  unfolding acknowledged
+  acknowledged-none e = sym (ap (acknowledged c) (empty l e))
 
-  pub not-filled : answers c asked ≡ false → out ≡ put out 0 (delivered (respond c asked .answer))
-  not-filled away =
-      sym (ap (λ (x : Reached Chip Outcome). put out 0 (delivered (x .answer))) (unanswered none c asked away)
-      ∙ put-none out 0)
+  module _ (more : 0 < length l) where
+    acknowledged-some : (check : Bool) → c .check ≡ check
+        → acknowledged c l
+        ≡ eqb (length (accepted check (writeByte (c .address) ∷ getD l 0 0 ∷ []) (rest l))) (complete check (length (rest l)))
+    unfolding acknowledged storedOf
+    acknowledged-some check e = ap (acknowledged c) (head-rest l more) ∙ rw e
 
-  pub filled : answers c asked ≡ true → shows c r (length out) ≡ put out 0 (delivered (respond c asked .answer))
-  unfolding carried
-  filled there =
-      sym (ap (λ (x : Reached Chip Outcome). put out 0 (delivered (x .answer))) (responds none c asked there)
-      ∙ put-all out (shows c r (length out)) (omega (arith, length-shows c r (length out))))
+    pub acknowledged-alone : c .check ≡ false → true ≡ acknowledged c l
+    unfolding accepted complete
+    acknowledged-alone e = sym (acknowledged-some false e ∙ eq-eqb (length (rest l)) (length (rest l)) refl)
+
+    pub acknowledged-checked : c .check ≡ true
+        → allRight (writeByte (c .address) ∷ getD l 0 0 ∷ []) (rest l) ≡ acknowledged c l
+    unfolding accepted complete
+    acknowledged-checked e = sym (acknowledged-some true e)
+
+  abbrev sent : Transfer
+  sent = write (c .address) l
+
+  pub cut-faults : (j : ℕ) → respondCut (some j) c sent .answer ≡ saying false []
+  unfolding respondCut carried
+  cut-faults j = by (answers c sent)
+    where
+      by : (yes : Bool) → (if yes then carried (some j) c sent else reached (fault []) c) .answer ≡ fault []
+      by true = refl
+      by false = refl
+
+  pub whole-goes : respondCut none c sent .answer ≡ saying (answers c sent && acknowledged c l) []
+  unfolding respondCut carried
+  whole-goes = by (answers c sent) (acknowledged c l)
+    where
+      by : (yes good : Bool)
+          → (if yes then reached (if good then done [] else fault []) (written c l) else reached (fault []) c) .answer
+          ≡ saying (yes && good) []
+      by true true = refl
+      by true false = refl
+      by false good = refl

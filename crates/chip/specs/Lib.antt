@@ -2,3 +2,4 @@ pub mod Devices
 pub mod Live
 pub mod Chip
 pub mod OnChip
+pub mod Answering

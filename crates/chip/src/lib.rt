@@ -1,20 +1,22 @@
 // The model chip of a battery monitor: 256 registers behind a bus address, with check bytes or without.
 // `specs/Chip.antt` says what it does.
 ghost use mathlib.Core.Path.{_≡_};
-ghost use mathlib.Core.Bool.{true, false};
+ghost use mathlib.Core.Bool.{true};
 ghost use mathlib.Core.List.{[], _∷_};
-ghost use mathlib.Core.Option.{none, some};
 ghost use Prim.Native.Nat.{ℕ, _+_, _≤_, _<_};
 ghost use lib.Dec.{leb};
 ghost use lib.ListN.{length, getD};
 ghost use Rattle.frames.specs.Frames.{writeByte};
-ghost use Rattle.frames.specs.Put.{put};
-ghost use Rattle.bus.specs.Transfers.{read, write};
+ghost use Rattle.bus.specs.Transfers.{write};
 ghost use Rattle.chip.specs.Chip.{withRegs, fresh, withReg, begun, arrives, stores, agreed, written};
-ghost use Rattle.chip.specs.Chip.{shows, answers, respond, respondCut, delivered};
+ghost use Rattle.chip.specs.Chip.{shows, answers, respondCut};
+ghost use Rattle.chip.specs.Answering.{asCut};
+use crate::answer::Cut;
 use check_byte::check_byte1;
 use check_byte::check_byte2;
 use check_byte::check_byte3;
+
+pub mod answer;
 
 pub struct Chip {
     pub address: u8,
@@ -131,23 +133,16 @@ impl Chip {
         }
     }
 
-    // A write, by its bytes after the address byte.
-    pub fn write(self, bytes: &[u8]) -> Chip
-        ensures { λ r. ⌜ r ≡ respond self (write (self .address) (now (bytes .entry))) .device ⌝ }
+    // The chip after a write at its own address, by the bytes after the address byte.
+    fn write(self, bytes: &[u8], cut: Cut) -> Chip
+        ensures { λ r. ⌜ r ≡ respondCut (asCut cut) self (write (self .address) (now (bytes .entry))) .device ⌝ }
     {
         if !self.is_answered(bytes) {
             return self;
         }
-        self.take_in(bytes)
-    }
-
-    // The same, cut after n of them.
-    pub fn write_cut(self, bytes: &[u8], n: usize) -> Chip
-        ensures { λ r. ⌜ r ≡ respondCut (some n) self (write (self .address) (now (bytes .entry))) .device ⌝ }
-    {
-        if !self.is_answered(bytes) {
-            return self;
-        }
+        let Cut::After(n) = cut else {
+            return self.take_in(bytes);
+        };
         if bytes.len() <= n {
             return self.take_in(bytes);
         }
@@ -173,22 +168,5 @@ impl Chip {
             return check_byte2(address << 1 | 1, byte);
         }
         check_byte1(byte)
-    }
-
-    // A read of as many bytes on the bus as out holds, and whether it is answered.
-    pub fn read(self, reg: u8, out: &mut [u8]) -> bool
-        ensures { λ r. ⌜ (r ≡ answers self (read (self .address) reg (length (now (out .entry)))))
-            × (now (out .exit) ≡ put (now (out .entry)) 0
-            (delivered (respond self (read (self .address) reg (length (now (out .entry)))) .answer))) ⌝ }
-    {
-        if !self.is_within(reg, out.len()) {
-            return false;
-        }
-        let mut i = 0;
-        while i < out.len() {
-            out[i] = self.shown(reg, i);
-            i += 1;
-        }
-        true
     }
 }
