@@ -197,7 +197,7 @@ fn delays() {
     );
 }
 
-pub fn functions() {
+pub(crate) fn functions() {
     steps();
     codes();
     currents();

@@ -59,7 +59,7 @@ fn row(cell: u32, millivolts: u32, should: u32) {
     print::row(b", input", millivolts / 365, should);
 }
 
-pub fn ten() {
+pub(crate) fn ten() {
     let mut list = [0u32; 10];
     read(10, &mut list);
     text::words(b"BQ76930, 10 cells\n");
@@ -75,7 +75,7 @@ pub fn ten() {
     row(10, list[9], 10);
 }
 
-pub fn six() {
+pub(crate) fn six() {
     let mut list = [0u32; 10];
     read(6, &mut list);
     text::words(b"BQ76930, 6 cells\n");

@@ -1,6 +1,6 @@
 // One line a row: what it is, what came, what should have come.
 
-pub fn row(name: &[u8], came: u32, should: u32) {
+pub(crate) fn row(name: &[u8], came: u32, should: u32) {
     text::words(name);
     text::words(b":");
     text::number(came as u64);
@@ -10,7 +10,7 @@ pub fn row(name: &[u8], came: u32, should: u32) {
 }
 
 // The same for a number that may be below zero.
-pub fn signed_row(name: &[u8], came: i32, should: i32) {
+pub(crate) fn signed_row(name: &[u8], came: i32, should: i32) {
     text::words(name);
     text::words(b":");
     text::signed_number(came);

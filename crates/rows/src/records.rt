@@ -149,7 +149,7 @@ fn constants() {
     print::row(b"D34 ADCGAIN1", BQ769x0::ADCGAIN1 as u32, 0x50);
 }
 
-pub fn records() {
+pub(crate) fn records() {
     transfers();
     logs();
     unsound();
