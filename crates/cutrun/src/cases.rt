@@ -1,6 +1,6 @@
 // The chips, the records and the configurations.
 use crate::bench;
-use crate::bench::Cut;
+use crate::bench::Place;
 use crate::bench::Start;
 use bq769x0::BQ769x0;
 use chip::Chip;
@@ -48,7 +48,7 @@ fn fresh(x: u8, address: u8, check: bool) -> BQ769x0 {
     made.device
 }
 
-pub fn all_zero(check: bool) -> Start {
+pub(crate) fn all_zero(check: bool) -> Start {
     Start {
         chip: Chip::make(8, check),
         device: fresh(BQ769x0::BQ76920, 8, check),
@@ -65,7 +65,7 @@ fn counted_down(check: bool) -> Chip {
     chip.set(BQ769x0::SYS_CTRL2, 0xA3)
 }
 
-pub fn not_zero(check: bool) -> Start {
+pub(crate) fn not_zero(check: bool) -> Start {
     Start {
         chip: counted_down(check),
         device: fresh(BQ769x0::BQ76930, 0x18, check),
@@ -80,7 +80,7 @@ fn set_up(check: bool, config: Config) -> Start {
         device: fresh(BQ769x0::BQ76940, 8, check),
         config: with_ov(4200),
     };
-    let run = bench::run(first, Cut::none());
+    let run = bench::run(first, Place::none());
     let chip = run.bench.chip;
     let device = run.init.device;
     Start {
@@ -90,11 +90,11 @@ fn set_up(check: bool, config: Config) -> Start {
     }
 }
 
-pub fn again(check: bool) -> Start {
+pub(crate) fn again(check: bool) -> Start {
     set_up(check, upper())
 }
 
 // By number 8, after both reads of the calibration.
-pub fn refused(check: bool) -> Start {
+pub(crate) fn refused(check: bool) -> Start {
     set_up(check, with_ov(4483))
 }

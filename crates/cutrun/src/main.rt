@@ -4,7 +4,6 @@ mod bench;
 mod cases;
 mod compare;
 mod report;
-mod tape;
 
 fn main() {
     report::all(b"BQ76920", cases::all_zero(false));

@@ -1,8 +1,8 @@
 // A line for each cut of an init: its answer, registers 05 to 0B and the record's mark and shunt then, and whether a second init on a whole bus ends
 // as one that was never cut.
 use crate::bench;
-use crate::bench::Cut;
 use crate::bench::Outcome;
+use crate::bench::Place;
 use crate::bench::Start;
 use crate::compare;
 use bq769x0::BQ769x0;
@@ -33,12 +33,12 @@ fn left(run: Outcome) {
     record(device);
 }
 
-fn cut_at(name: &[u8], cut: Cut) {
+fn cut_at(name: &[u8], place: Place) {
     text::words(name);
     text::words(b", transfer");
-    text::number(cut.transfer as u64);
+    text::number(place.transfer as u64);
     text::words(b" cut after");
-    text::number(cut.bytes as u64);
+    text::number(place.bytes as u64);
 }
 
 fn second(same: bool) {
@@ -49,11 +49,11 @@ fn second(same: bool) {
     }
 }
 
-fn line(name: &[u8], start: Start, whole: Outcome, cut: Cut) {
-    let first = bench::run(start, cut);
-    cut_at(name, cut);
+fn line(name: &[u8], start: Start, whole: Outcome, place: Place) {
+    let first = bench::run(start, place);
+    cut_at(name, place);
     left(first);
-    let again = bench::run(after(first, start), Cut::none());
+    let again = bench::run(after(first, start), Place::none());
     second(compare::same(again, whole));
 }
 
@@ -70,7 +70,7 @@ fn after(run: Outcome, start: Start) -> Start {
 
 fn each_byte(name: &[u8], start: Start, whole: Outcome, transfer: usize, size: usize) {
     for bytes in 0..=size {
-        line(name, start, whole, Cut { transfer, bytes });
+        line(name, start, whole, Place { transfer, bytes });
     }
 }
 
@@ -84,8 +84,8 @@ fn each_transfer(name: &[u8], start: Start, whole: Outcome) {
     }
 }
 
-pub fn all(name: &[u8], start: Start) {
-    let whole = bench::run(start, Cut::none());
+pub(crate) fn all(name: &[u8], start: Start) {
+    let whole = bench::run(start, Place::none());
     text::words(name);
     text::words(b", whole");
     left(whole);
