@@ -10,6 +10,9 @@ use setup::left::Init;
 // No init makes more transfers.
 pub(crate) const MOST: usize = 8;
 
+// No init has more places to be cut at.
+pub(crate) const PLACES: usize = 64;
+
 // A chip, a record that speaks to it, and what it is to be set up with.
 pub(crate) struct Start {
     pub chip: Chip,
@@ -27,6 +30,31 @@ impl Place {
     pub(crate) fn none() -> Place {
         Place {
             transfer: MOST,
+            bytes: 0,
+        }
+    }
+
+    pub(crate) fn first() -> Place {
+        Place {
+            transfer: 0,
+            bytes: 0,
+        }
+    }
+
+    // After one byte more, up to all of the transfer's, and then in the next transfer.
+    pub(crate) fn next(self, whole: Bench) -> Place {
+        let k = self.transfer;
+        if MOST <= k {
+            return self;
+        }
+        if self.bytes < whole.sizes[k] {
+            return Place {
+                transfer: k,
+                bytes: std::num::wrapping_add_usize(self.bytes, 1),
+            };
+        }
+        Place {
+            transfer: k + 1,
             bytes: 0,
         }
     }
