@@ -41,24 +41,6 @@ impl Place {
         }
     }
 
-    // After one byte more, up to all of the transfer's, and then in the next transfer.
-    pub(crate) fn next(self, whole: Bench) -> Place {
-        let k = self.transfer;
-        if MOST <= k {
-            return self;
-        }
-        if self.bytes < whole.sizes[k] {
-            return Place {
-                transfer: k,
-                bytes: std::num::wrapping_add_usize(self.bytes, 1),
-            };
-        }
-        Place {
-            transfer: k + 1,
-            bytes: 0,
-        }
-    }
-
     // How transfer i goes.
     fn cut(self, i: usize) -> Cut {
         if i == self.transfer {
@@ -81,6 +63,32 @@ pub(crate) struct Bench {
 pub(crate) struct Outcome {
     pub bench: Bench,
     pub init: Init,
+}
+
+impl Outcome {
+    // Whether its transfers have such a place.
+    pub(crate) fn has(self, place: Place) -> bool {
+        place.transfer < self.bench.made
+    }
+
+    // After one byte more, up to all of the transfer's, and then in the next transfer.
+    pub(crate) fn next(self, place: Place) -> Place {
+        let k = place.transfer;
+        if MOST <= k {
+            return place;
+        }
+        let bench = self.bench;
+        if place.bytes < bench.sizes[k] {
+            return Place {
+                transfer: k,
+                bytes: std::num::wrapping_add_usize(place.bytes, 1),
+            };
+        }
+        Place {
+            transfer: k + 1,
+            bytes: 0,
+        }
+    }
 }
 
 // How many bytes the transfer of a log field has after the address byte: a write all but the address, and a read as many as it wants.

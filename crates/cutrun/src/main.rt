@@ -4,6 +4,7 @@ mod bench;
 mod cases;
 mod compare;
 mod report;
+mod tally;
 mod twice;
 
 fn accepted(check: bool) {
@@ -28,6 +29,6 @@ fn main() {
     refused(true);
     twice::all(b"BQ76920", cases::all_zero(false));
     twice::all(b"BQ76920", cases::all_zero(true));
-    report::shown(b"BQ76920", cases::all_zero(false), cases::upper());
-    report::shown(b"BQ76920", cases::all_zero(true), cases::upper());
+    report::shown(b"BQ76920", cases::all_zero(false));
+    report::shown(b"BQ76920", cases::all_zero(true));
 }

@@ -6,23 +6,33 @@ use crate::bench::Place;
 use crate::bench::Start;
 use crate::cases;
 use crate::compare;
+use crate::tally::Tally;
 use bq769x0::BQ769x0;
 use chip::Chip;
 use plan::Config;
 
-// Inits before which nothing is cut: the start's, the same with a new record, and one of another configuration.
-struct Wholes {
-    kept: Outcome,
-    lost: Outcome,
-    other: Outcome,
+// The init after a cut: with the record that the cut left or with a new one, and of this configuration.
+struct After {
+    anew: bool,
+    config: Config,
 }
 
-// How many cuts were tried, and after how many each of these inits ended as it does with nothing cut.
-struct Counts {
-    cuts: u64,
-    kept: u64,
-    lost: u64,
-    other: u64,
+impl After {
+    fn on(self, chip: Chip, device: BQ769x0) -> Start {
+        let config = self.config;
+        if self.anew {
+            return Start {
+                chip,
+                device: cases::anew(device),
+                config,
+            };
+        }
+        Start {
+            chip,
+            device,
+            config,
+        }
+    }
 }
 
 // A register whose byte is not as it was, and whether it is such.
@@ -48,17 +58,28 @@ fn registers(before: Chip, chip: Chip) {
     }
 }
 
-fn left(before: Chip, run: Outcome) {
-    let init = run.init;
-    let answer = init.answer;
-    let device = init.device;
-    let chip = run.bench.chip;
-    text::words(b": answer");
-    text::number(answer.number() as u64);
+fn record(device: BQ769x0) {
     text::words(b", mark");
     text::number(device.init_complete as u64);
     text::words(b" shunt");
     text::number(device.shunt.0 as u64);
+}
+
+fn answer(run: Outcome) {
+    let init = run.init;
+    let answer = init.answer;
+    text::words(b" answer");
+    text::number(answer.number() as u64);
+}
+
+// What a run from a start answers and leaves.
+fn left(start: Start, run: Outcome) {
+    let device = run.init.device;
+    let before = start.chip;
+    let chip = run.bench.chip;
+    text::words(b":");
+    answer(run);
+    record(device);
     registers(before, chip);
 }
 
@@ -78,137 +99,92 @@ pub(crate) fn cut_at(place: Place) {
     text::number(place.bytes as u64);
 }
 
-fn differs(what: &[u8], same: bool) {
-    if !same {
-        text::words(what);
-        text::words(b" DIFFERS");
-    }
-}
-
-// Whether an init on a whole bus, on the chip that a run left, ends as this one.
-fn ends(run: Outcome, device: BQ769x0, config: Config, whole: Outcome) -> bool {
-    let chip = run.bench.chip;
-    let start = Start {
-        chip,
-        device,
-        config,
-    };
-    compare::same(bench::run(start, Place::none()), whole)
-}
-
-// One cut, and the inits after it; with a line where it is to be shown, or one of them ended otherwise.
-fn one(
-    name: &[u8],
-    start: Start,
-    other: Config,
-    wholes: Wholes,
-    place: Place,
-    shown: bool,
-) -> Counts {
+// What a cut leaves.
+fn line(name: &[u8], start: Start, place: Place) {
     let cut = bench::run(start, place);
+    title(name, start);
+    cut_at(place);
+    left(start, cut);
+    text::words(b"\n");
+}
+
+// Whether the init after a cut ends as this one; a line where it does not.
+fn same(name: &[u8], start: Start, after: After, whole: Outcome, place: Place) -> bool {
+    let cut = bench::run(start, place);
+    let chip = cut.bench.chip;
     let device = cut.init.device;
-    let before = start.chip;
-    let config = start.config;
-    let by_kept = wholes.kept;
-    let by_lost = wholes.lost;
-    let by_other = wholes.other;
-    let kept = ends(cut, device, config, by_kept);
-    let lost = ends(cut, cases::anew(device), config, by_lost);
-    let otherwise = ends(cut, device, other, by_other);
-    if shown | !(kept & lost & otherwise) {
-        title(name, start);
-        cut_at(place);
-        left(before, cut);
-        differs(b", second init", kept);
-        differs(b", with a new record", lost);
-        differs(b", of another configuration", otherwise);
-        text::words(b"\n");
+    let then = bench::run(after.on(chip, device), Place::none());
+    if compare::same(then, whole) {
+        return true;
     }
-    Counts {
-        cuts: 1,
-        kept: kept as u64,
-        lost: lost as u64,
-        other: otherwise as u64,
-    }
+    text::words(b"DIFFERS after ");
+    line(name, start, place);
+    false
 }
 
-fn sum(a: Counts, b: Counts) -> Counts {
-    Counts {
-        cuts: std::num::wrapping_add_u64(a.cuts, b.cuts),
-        kept: std::num::wrapping_add_u64(a.kept, b.kept),
-        lost: std::num::wrapping_add_u64(a.lost, b.lost),
-        other: std::num::wrapping_add_u64(a.other, b.other),
-    }
-}
-
-fn each(name: &[u8], start: Start, other: Config, wholes: Wholes, shown: bool) -> Counts {
-    let whole = wholes.kept.bench;
-    let mut counts = Counts {
-        cuts: 0,
-        kept: 0,
-        lost: 0,
-        other: 0,
-    };
-    let mut place = Place::first();
-    for n in 0..bench::PLACES {
-        if place.transfer < whole.made {
-            counts = sum(counts, one(name, start, other, wholes, place, shown));
-            place = place.next(whole);
-        }
-    }
-    counts
-}
-
-fn never_cut(start: Start, other: Config) -> Wholes {
+// That init with nothing cut before it.
+fn uncut(start: Start, after: After) -> Outcome {
     let chip = start.chip;
     let device = start.device;
-    let config = start.config;
-    let anew = Start {
-        chip,
-        device: cases::anew(device),
-        config,
-    };
-    let otherwise = Start {
-        chip,
-        device,
-        config: other,
-    };
-    Wholes {
-        kept: bench::run(start, Place::none()),
-        lost: bench::run(anew, Place::none()),
-        other: bench::run(otherwise, Place::none()),
-    }
+    bench::run(after.on(chip, device), Place::none())
 }
 
-fn counted(counts: Counts, other: Outcome) {
-    let init = other.init;
-    let answer = init.answer;
+fn each(name: &[u8], start: Start, after: After) -> Tally {
+    let first = bench::run(start, Place::none());
+    let whole = uncut(start, after);
+    let mut tally = Tally::none();
+    let mut place = Place::first();
+    for n in 0..bench::PLACES {
+        if first.has(place) {
+            tally = tally.counted(same(name, start, after, whole, place));
+            place = first.next(place);
+        }
+    }
+    tally
+}
+
+fn counted(kept: Tally, lost: Tally, otherwise: Tally) {
     text::words(b"; cut at");
-    text::number(counts.cuts);
+    text::number(kept.tried);
     text::words(b" places, then as if never cut:");
-    text::number(counts.kept);
+    text::number(kept.same);
     text::words(b" again,");
-    text::number(counts.lost);
+    text::number(lost.same);
     text::words(b" with a new record,");
-    text::number(counts.other);
-    text::words(b" of another configuration, answer");
-    text::number(answer.number() as u64);
-    text::words(b"\n");
+    text::number(otherwise.same);
+    text::words(b" of another configuration,");
 }
 
 // A start's line.
 pub(crate) fn all(name: &[u8], start: Start, other: Config) {
-    let wholes = never_cut(start, other);
-    let counts = each(name, start, other, wholes, false);
-    let whole = wholes.kept;
-    let otherwise = wholes.other;
-    let before = start.chip;
+    let config = start.config;
+    let again = After {
+        anew: false,
+        config,
+    };
+    let anew = After { anew: true, config };
+    let otherwise = After {
+        anew: false,
+        config: other,
+    };
+    let kept = each(name, start, again);
+    let lost = each(name, start, anew);
+    let last = each(name, start, otherwise);
     title(name, start);
-    left(before, whole);
-    counted(counts, otherwise);
+    left(start, bench::run(start, Place::none()));
+    counted(kept, lost, last);
+    answer(uncut(start, otherwise));
+    text::words(b"\n");
 }
 
-// A line for each place: what is left by the cut there.
-pub(crate) fn shown(name: &[u8], start: Start, other: Config) {
-    each(name, start, other, never_cut(start, other), true);
+// A line for each place.
+pub(crate) fn shown(name: &[u8], start: Start) {
+    let first = bench::run(start, Place::none());
+    let mut place = Place::first();
+    for n in 0..bench::PLACES {
+        if first.has(place) {
+            line(name, start, place);
+            place = first.next(place);
+        }
+    }
 }

@@ -5,13 +5,8 @@ use crate::bench::Place;
 use crate::bench::Start;
 use crate::compare;
 use crate::report;
+use crate::tally::Tally;
 use plan::Config;
-
-// How many pairs were tried, and after how many the init ended so.
-struct Pairs {
-    tried: u64,
-    same: u64,
-}
 
 // On what a run left.
 fn after(run: Outcome, config: Config) -> Start {
@@ -39,48 +34,39 @@ fn pair(first: Place, second: Place, start: Start, whole: Outcome) -> bool {
     same
 }
 
-fn counted(pairs: Pairs, same: bool) -> Pairs {
-    Pairs {
-        tried: std::num::wrapping_add_u64(pairs.tried, 1),
-        same: std::num::wrapping_add_u64(pairs.same, same as u64),
-    }
-}
-
-fn each_second(first: Place, start: Start, whole: Outcome, pairs: Pairs) -> Pairs {
-    let places = whole.bench;
-    let mut out = pairs;
+fn each_second(first: Place, start: Start, whole: Outcome, tally: Tally) -> Tally {
+    let mut out = tally;
     let mut second = Place::first();
     for n in 0..bench::PLACES {
-        if second.transfer < places.made {
-            out = counted(out, pair(first, second, start, whole));
-            second = second.next(places);
+        if whole.has(second) {
+            out = out.counted(pair(first, second, start, whole));
+            second = whole.next(second);
         }
     }
     out
 }
 
-fn each_first(start: Start, whole: Outcome) -> Pairs {
-    let places = whole.bench;
+fn each_first(start: Start, whole: Outcome) -> Tally {
     let config = start.config;
-    let mut pairs = Pairs { tried: 0, same: 0 };
+    let mut tally = Tally::none();
     let mut first = Place::first();
     for n in 0..bench::PLACES {
-        if first.transfer < places.made {
+        if whole.has(first) {
             let cut = bench::run(start, first);
-            pairs = each_second(first, after(cut, config), whole, pairs);
-            first = first.next(places);
+            tally = each_second(first, after(cut, config), whole, tally);
+            first = whole.next(first);
         }
     }
-    pairs
+    tally
 }
 
 pub(crate) fn all(name: &[u8], start: Start) {
     let whole = bench::run(start, Place::none());
-    let pairs = each_first(start, whole);
+    let tally = each_first(start, whole);
     report::title(name, start);
     text::words(b": cut twice at");
-    text::number(pairs.tried);
+    text::number(tally.tried);
     text::words(b" pairs of places, then as if never cut:");
-    text::number(pairs.same);
+    text::number(tally.same);
     text::words(b" again\n");
 }

@@ -6,10 +6,22 @@ use Rattle.cutrun.proofs.report.each.Statement.{statement}
 use Rattle.cutrun.proofs.report.each.Tie as tie
 
 abbrev Inv-loop : tie.InvT-loop
-Inv-loop name start other wholes shown whole counts₀ place₀ n₀ counts place n = Unit {0}
+Inv-loop name start after first whole tally₀ place₀ n₀ tally place n = Unit {0}
 
 abbrev μ-loop : tie.MeasureT-loop
-μ-loop name start other wholes shown whole counts₀ place₀ n₀ counts place n = 64 - n
+μ-loop name start after first whole tally₀ place₀ n₀ tally place n = 64 - n
+
+none-requires : tie.Need-none-requires Inv-loop μ-loop
+none-requires c κs = search needs
+
+run-requires : tie.Need-run-requires Inv-loop μ-loop
+run-requires c κs = search needs
+
+uncut-requires : tie.Need-uncut-requires Inv-loop μ-loop
+uncut-requires c κs = search needs
+
+none-requires-2 : tie.Need-none-requires-2 Inv-loop μ-loop
+none-requires-2 c κs = search needs
 
 first-requires : tie.Need-first-requires Inv-loop μ-loop
 first-requires c κs = search needs
@@ -17,11 +29,14 @@ first-requires c κs = search needs
 loop-holds : tie.Need-loop-holds Inv-loop μ-loop
 loop-holds c = search needs
 
-one-requires : tie.Need-one-requires Inv-loop μ-loop
-one-requires c κs = search needs
+has-requires : tie.Need-has-requires Inv-loop μ-loop
+has-requires c κs = search needs
 
-sum-requires : tie.Need-sum-requires Inv-loop μ-loop
-sum-requires c κs = search needs
+same-requires : tie.Need-same-requires Inv-loop μ-loop
+same-requires c κs = search needs
+
+counted-requires : tie.Need-counted-requires Inv-loop μ-loop
+counted-requires c κs = search needs
 
 next-requires : tie.Need-next-requires Inv-loop μ-loop
 next-requires c κs = search needs
@@ -44,10 +59,15 @@ each-spec =
     (tie.spec
     Inv-loop
     μ-loop
+    none-requires
+    run-requires
+    uncut-requires
+    none-requires-2
     first-requires
     loop-holds
-    one-requires
-    sum-requires
+    has-requires
+    same-requires
+    counted-requires
     next-requires
     add-n
     loop-less

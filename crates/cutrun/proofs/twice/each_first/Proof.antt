@@ -6,16 +6,22 @@ use Rattle.cutrun.proofs.twice.each_first.Statement.{statement}
 use Rattle.cutrun.proofs.twice.each_first.Tie as tie
 
 abbrev Inv-loop : tie.InvT-loop
-Inv-loop start whole places config pairs₀ first₀ n₀ pairs first n = Unit {0}
+Inv-loop start whole config tally₀ first₀ n₀ tally first n = Unit {0}
 
 abbrev μ-loop : tie.MeasureT-loop
-μ-loop start whole places config pairs₀ first₀ n₀ pairs first n = 64 - n
+μ-loop start whole config tally₀ first₀ n₀ tally first n = 64 - n
+
+none-requires : tie.Need-none-requires Inv-loop μ-loop
+none-requires c κs = search needs
 
 first-requires : tie.Need-first-requires Inv-loop μ-loop
 first-requires c κs = search needs
 
 loop-holds : tie.Need-loop-holds Inv-loop μ-loop
 loop-holds c = search needs
+
+has-requires : tie.Need-has-requires Inv-loop μ-loop
+has-requires c κs = search needs
 
 run-requires : tie.Need-run-requires Inv-loop μ-loop
 run-requires c κs = search needs
@@ -47,8 +53,10 @@ each-first-spec =
     (tie.spec
     Inv-loop
     μ-loop
+    none-requires
     first-requires
     loop-holds
+    has-requires
     run-requires
     after-requires
     each-second-requires

@@ -6,16 +6,19 @@ use Rattle.cutrun.proofs.twice.each_second.Statement.{statement}
 use Rattle.cutrun.proofs.twice.each_second.Tie as tie
 
 abbrev Inv-loop : tie.InvT-loop
-Inv-loop first start whole places out₀ second₀ n₀ out second n = Unit {0}
+Inv-loop first start whole out₀ second₀ n₀ out second n = Unit {0}
 
 abbrev μ-loop : tie.MeasureT-loop
-μ-loop first start whole places out₀ second₀ n₀ out second n = 64 - n
+μ-loop first start whole out₀ second₀ n₀ out second n = 64 - n
 
 first-requires : tie.Need-first-requires Inv-loop μ-loop
 first-requires c κs = search needs
 
 loop-holds : tie.Need-loop-holds Inv-loop μ-loop
 loop-holds c = search needs
+
+has-requires : tie.Need-has-requires Inv-loop μ-loop
+has-requires c κs = search needs
 
 pair-requires : tie.Need-pair-requires Inv-loop μ-loop
 pair-requires c κs = search needs
@@ -46,6 +49,7 @@ each-second-spec =
     μ-loop
     first-requires
     loop-holds
+    has-requires
     pair-requires
     counted-requires
     next-requires
