@@ -109,7 +109,14 @@ fn line(name: &[u8], start: Start, place: Place) {
 }
 
 // Whether the init after a cut ends as this one; a line where it does not.
-fn same(name: &[u8], start: Start, after: After, whole: Outcome, place: Place) -> bool {
+fn same(
+    name: &[u8],
+    what: &[u8],
+    start: Start,
+    after: After,
+    whole: Outcome,
+    place: Place,
+) -> bool {
     let cut = bench::run(start, place);
     let chip = cut.bench.chip;
     let device = cut.init.device;
@@ -117,7 +124,8 @@ fn same(name: &[u8], start: Start, after: After, whole: Outcome, place: Place) -
     if compare::same(then, whole) {
         return true;
     }
-    text::words(b"DIFFERS after ");
+    text::words(what);
+    text::words(b" DIFFERS after ");
     line(name, start, place);
     false
 }
@@ -129,14 +137,14 @@ fn uncut(start: Start, after: After) -> Outcome {
     bench::run(after.on(chip, device), Place::none())
 }
 
-fn each(name: &[u8], start: Start, after: After) -> Tally {
+fn each(name: &[u8], what: &[u8], start: Start, after: After) -> Tally {
     let first = bench::run(start, Place::none());
     let whole = uncut(start, after);
     let mut tally = Tally::none();
     let mut place = Place::first();
     for n in 0..bench::PLACES {
         if first.has(place) {
-            tally = tally.counted(same(name, start, after, whole, place));
+            tally = tally.counted(same(name, what, start, after, whole, place));
             place = first.next(place);
         }
     }
@@ -167,9 +175,9 @@ pub(crate) fn all(name: &[u8], start: Start, other: Config) {
         anew: false,
         config: other,
     };
-    let kept = each(name, start, again);
-    let lost = each(name, start, anew);
-    let last = each(name, start, otherwise);
+    let kept = each(name, b"again", start, again);
+    let lost = each(name, b"with a new record", start, anew);
+    let last = each(name, b"of another configuration", start, otherwise);
     title(name, start);
     left(start, bench::run(start, Place::none()));
     counted(kept, lost, last);

@@ -6,10 +6,10 @@ use Rattle.cutrun.proofs.report.each.Statement.{statement}
 use Rattle.cutrun.proofs.report.each.Tie as tie
 
 abbrev Inv-loop : tie.InvT-loop
-Inv-loop name start after first whole tally₀ place₀ n₀ tally place n = Unit {0}
+Inv-loop name what start after first whole tally₀ place₀ n₀ tally place n = Unit {0}
 
 abbrev μ-loop : tie.MeasureT-loop
-μ-loop name start after first whole tally₀ place₀ n₀ tally place n = 64 - n
+μ-loop name what start after first whole tally₀ place₀ n₀ tally place n = 64 - n
 
 none-requires : tie.Need-none-requires Inv-loop μ-loop
 none-requires c κs = search needs
