@@ -9,6 +9,7 @@ pub mod Fed
 pub mod FirstPart
 pub mod Honest
 pub mod Live
+pub mod Logged
 pub mod Logs
 pub mod Makes
 pub mod Quits

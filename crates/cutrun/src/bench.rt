@@ -1,49 +1,108 @@
 // The driver's `init` on the model chip, with one transfer cut or none. The chip's answers make up the tape. What is to be answered next is found
 // out by a fault at the tape's end: the transfer that the fault met is the last in the log. The chip's answer then takes the fault's place.
-use crate::tape::Tape;
 use bq769x0::BQ769x0;
 use bus::Cursor;
 use chip::Chip;
+use chip::answer::Cut;
 use plan::Config;
 use setup::left::Init;
 
 // No init makes more transfers.
-pub const MOST: usize = 8;
+pub(crate) const MOST: usize = 8;
+
+// No init has more places to be cut at.
+pub(crate) const PLACES: usize = 64;
 
 // A chip, a record that speaks to it, and what it is to be set up with.
-pub struct Start {
+pub(crate) struct Start {
     pub chip: Chip,
     pub device: BQ769x0,
     pub config: Config,
 }
 
-// A transfer, from 0, and how many of its bytes go through before the fault.
-pub struct Cut {
+// Where the wire is cut: in a transfer, from 0, after so many of its bytes.
+pub(crate) struct Place {
     pub transfer: usize,
     pub bytes: usize,
 }
 
-impl Cut {
-    pub fn none() -> Cut {
-        Cut {
+impl Place {
+    pub(crate) fn none() -> Place {
+        Place {
             transfer: MOST,
+            bytes: 0,
+        }
+    }
+
+    pub(crate) fn first() -> Place {
+        Place {
+            transfer: 0,
+            bytes: 0,
+        }
+    }
+
+    // How transfer i goes.
+    fn cut(self, i: usize) -> Cut {
+        if i == self.transfer {
+            return Cut::After(self.bytes);
+        }
+        Cut::Whole
+    }
+}
+
+// The chip, how many bytes each transfer had after the address byte, the tape of the chip's answers, how far it is filled, and the log too.
+pub(crate) struct Bench {
+    pub chip: Chip,
+    pub made: usize,
+    pub sizes: [usize; MOST],
+    tape: [u8; 256],
+    end: usize,
+    log_end: usize,
+}
+
+pub(crate) struct Outcome {
+    pub bench: Bench,
+    pub init: Init,
+}
+
+impl Outcome {
+    // Whether its transfers have such a place.
+    pub(crate) fn has(self, place: Place) -> bool {
+        place.transfer < self.bench.made
+    }
+
+    // After one byte more, up to all of the transfer's, and then in the next transfer.
+    pub(crate) fn next(self, place: Place) -> Place {
+        let k = place.transfer;
+        if MOST <= k {
+            return place;
+        }
+        let bench = self.bench;
+        if place.bytes < bench.sizes[k] {
+            return Place {
+                transfer: k,
+                bytes: std::num::wrapping_add_usize(place.bytes, 1),
+            };
+        }
+        Place {
+            transfer: k + 1,
             bytes: 0,
         }
     }
 }
 
-// The chip, how many bytes each transfer had after the address byte, the chip's answers, and how far they fill the log.
-pub struct Bench {
-    pub chip: Chip,
-    pub made: usize,
-    pub sizes: [usize; MOST],
-    tape: Tape,
-    log_end: usize,
-}
-
-pub struct Outcome {
-    pub bench: Bench,
-    pub init: Init,
+// How many bytes the transfer of a log field has after the address byte: a write all but the address, and a read as many as it wants.
+fn size_of(field: &[u8]) -> usize {
+    let n = field.len();
+    if n < 4 {
+        return 0;
+    }
+    if n == 7 {
+        if field[0] == 0x12 {
+            return numbers::be_u16(field[5], field[6]) as usize;
+        }
+    }
+    n - 4
 }
 
 impl Bench {
@@ -52,82 +111,33 @@ impl Bench {
             chip,
             made: 0,
             sizes: [0usize; MOST],
-            tape: Tape::empty(),
+            tape: [0u8; 256],
+            end: 0,
             log_end: 0,
         }
     }
 
-    // The chip and the tape after one more transfer.
-    fn moved(self, chip: Chip, size: usize, tape: Tape) -> Bench {
-        let mut out = self;
+    // The chip after the transfer of a log field, and its answer on the tape.
+    fn answered(self, field: &[u8], place: Place) -> Bench {
         let i = self.made;
         if MOST <= i {
-            return out;
+            return self;
         }
-        out.chip = chip;
+        let chip = self.chip;
+        let mut tape = self.tape;
+        let said = chip.answer(field, place.cut(i), &mut tape, self.end);
+        let after = said.chip;
+        let mut out = self;
+        out.chip = after;
         out.tape = tape;
-        out.sizes[i] = size;
+        out.end = said.end;
+        out.sizes[i] = size_of(field);
         out.made = i + 1;
         out
     }
 
-    fn written(self, bytes: &[u8], cut: Cut) -> Bench {
-        let chip = self.chip;
-        let tape = self.tape;
-        if self.made == cut.transfer {
-            let part = chip.write_cut(bytes, cut.bytes);
-            return self.moved(part, bytes.len(), tape.says(0x02, b""));
-        }
-        let all = chip.write(bytes);
-        self.moved(all, bytes.len(), tape.says(0x01, b""))
-    }
-
-    // A read that is answered, or the first of its bytes and a fault.
-    fn delivered(self, bytes: &[u8], cut: Cut) -> Tape {
-        let tape = self.tape;
-        if self.made == cut.transfer {
-            return tape.faults(bytes, cut.bytes);
-        }
-        tape.says(0x01, bytes)
-    }
-
-    // Into as many bytes as are wanted.
-    fn read_into(self, reg: u8, out: &mut [u8], cut: Cut) -> Bench {
-        let chip = self.chip;
-        let tape = self.tape;
-        if !chip.read(reg, out) {
-            return self.moved(chip, out.len(), tape.says(0x02, b""));
-        }
-        self.moved(chip, out.len(), self.delivered(out, cut))
-    }
-
-    fn read(self, reg: u8, wanted: u8, cut: Cut) -> Bench {
-        let mut out = [0u8; 255];
-        let n = wanted as usize;
-        self.read_into(reg, &mut out[..n], cut)
-    }
-
-    // What the chip says to the transfer of a log field; to another address it says nothing.
-    fn answered(self, field: &[u8], cut: Cut) -> Bench {
-        if field.len() < 4 {
-            return self;
-        }
-        let chip = self.chip;
-        let tape = self.tape;
-        if field[3] != chip.address {
-            return self.moved(chip, 0, tape.says(0x02, b""));
-        }
-        if field[0] == 0x11 {
-            return self.written(&field[4..], cut);
-        }
-        if field.len() < 7 {
-            return self;
-        }
-        self.read(field[4], field[6], cut)
-    }
-
     // The field that was added to the log, if one was.
-    fn next(self, log: [u8; 256], end: usize, cut: Cut) -> Bench {
+    fn next(self, log: [u8; 256], end: usize, place: Place) -> Bench {
         let from = self.log_end;
         if end <= from {
             return self;
@@ -137,31 +147,36 @@ impl Bench {
         }
         let mut out = self;
         out.log_end = end;
-        out.answered(&log[from..end], cut)
+        out.answered(&log[from..end], place)
     }
 
-    fn step(self, device: BQ769x0, config: Config, cut: Cut) -> Bench {
+    // Behind the answers so far a fault with no bytes: 02, and the two zeros of its length.
+    fn step(self, device: BQ769x0, config: Config, place: Place) -> Bench {
         let mut log = [0u8; 256];
-        let tape = self.tape;
-        let init = set_up(tape.says(0x02, b""), device, config, &mut log);
-        self.next(log, init.at.log, cut)
+        let mut tape = self.tape;
+        let end = self.end;
+        if end < 256 {
+            tape[end] = 0x02;
+        }
+        let init = set_up(tape, device, config, &mut log);
+        self.next(log, init.at.log, place)
     }
 }
 
-fn set_up(tape: Tape, device: BQ769x0, config: Config, log: &mut [u8; 256]) -> Init {
-    let bytes = tape.bytes;
+fn set_up(tape: [u8; 256], device: BQ769x0, config: Config, log: &mut [u8; 256]) -> Init {
     let at = Cursor { tape: 0, log: 0 };
-    setup::init(device, config, &bytes, log, at)
+    setup::init(device, config, &tape, log, at)
 }
 
-pub fn run(start: Start, cut: Cut) -> Outcome {
+pub(crate) fn run(start: Start, place: Place) -> Outcome {
     let device = start.device;
     let config = start.config;
     let mut bench = Bench::new(start.chip);
     for k in 0..MOST {
-        bench = bench.step(device, config, cut);
+        bench = bench.step(device, config, place);
     }
+    let tape = bench.tape;
     let mut log = [0u8; 256];
-    let init = set_up(bench.tape, device, config, &mut log);
+    let init = set_up(tape, device, config, &mut log);
     Outcome { bench, init }
 }

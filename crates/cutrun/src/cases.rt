@@ -1,6 +1,6 @@
 // The chips, the records and the configurations.
 use crate::bench;
-use crate::bench::Cut;
+use crate::bench::Place;
 use crate::bench::Start;
 use bq769x0::BQ769x0;
 use chip::Chip;
@@ -13,23 +13,27 @@ use units::Amperes;
 use units::MicroOhms;
 use units::MilliVolts;
 
-// The scope's example, but for the voltage.
-fn with_ov(ov: u32) -> Config {
+// The scope's example but for these figures: the shunt in microohms, short circuit and overcurrent in A, undervoltage and overvoltage in mV.
+fn with(shunt: u32, scd: u32, ocd: u32, uv: u32, ov: u32) -> Config {
     Config {
-        shunt: MicroOhms(1000),
+        shunt: MicroOhms(shunt),
         scd_delay: SCDDelay::_200uS,
-        scd_threshold: Amperes(50),
+        scd_threshold: Amperes(scd),
         ocd_delay: OCDDelay::_320ms,
-        ocd_threshold: Amperes(20),
+        ocd_threshold: Amperes(ocd),
         uv_delay: UVDelay::_4s,
-        uv_threshold: MilliVolts(2800),
+        uv_threshold: MilliVolts(uv),
         ov_delay: OVDelay::_4s,
         ov_threshold: MilliVolts(ov),
     }
 }
 
+pub(crate) fn example() -> Config {
+    with(1000, 50, 20, 2800, 4200)
+}
+
 // Both steps in the upper range only.
-fn upper() -> Config {
+pub(crate) fn upper() -> Config {
     Config {
         shunt: MicroOhms(2000),
         scd_delay: SCDDelay::_70uS,
@@ -48,11 +52,17 @@ fn fresh(x: u8, address: u8, check: bool) -> BQ769x0 {
     made.device
 }
 
-pub fn all_zero(check: bool) -> Start {
+// As a record was made, where it is lost.
+pub(crate) fn anew(device: BQ769x0) -> BQ769x0 {
+    let link = device.link;
+    fresh(link.x, link.address, link.check)
+}
+
+pub(crate) fn all_zero(check: bool) -> Start {
     Start {
         chip: Chip::make(8, check),
         device: fresh(BQ769x0::BQ76920, 8, check),
-        config: with_ov(4200),
+        config: example(),
     }
 }
 
@@ -65,7 +75,7 @@ fn counted_down(check: bool) -> Chip {
     chip.set(BQ769x0::SYS_CTRL2, 0xA3)
 }
 
-pub fn not_zero(check: bool) -> Start {
+pub(crate) fn not_zero(check: bool) -> Start {
     Start {
         chip: counted_down(check),
         device: fresh(BQ769x0::BQ76930, 0x18, check),
@@ -78,9 +88,9 @@ fn set_up(check: bool, config: Config) -> Start {
     let first = Start {
         chip: Chip::make(8, check),
         device: fresh(BQ769x0::BQ76940, 8, check),
-        config: with_ov(4200),
+        config: example(),
     };
-    let run = bench::run(first, Cut::none());
+    let run = bench::run(first, Place::none());
     let chip = run.bench.chip;
     let device = run.init.device;
     Start {
@@ -90,11 +100,31 @@ fn set_up(check: bool, config: Config) -> Start {
     }
 }
 
-pub fn again(check: bool) -> Start {
+pub(crate) fn again(check: bool) -> Start {
     set_up(check, upper())
 }
 
-// By number 8, after both reads of the calibration.
-pub fn refused(check: bool) -> Start {
-    set_up(check, with_ov(4483))
+// No range has both steps: by 6, after both reads of the calibration.
+pub(crate) fn no_range(check: bool) -> Start {
+    set_up(check, with(1000, 22, 100, 2800, 4200))
+}
+
+// By 7, after both reads.
+pub(crate) fn undervoltage(check: bool) -> Start {
+    set_up(check, with(1000, 50, 20, 1000, 4200))
+}
+
+// By 8, after both reads.
+pub(crate) fn overvoltage(check: bool) -> Start {
+    set_up(check, with(1000, 50, 20, 2800, 4483))
+}
+
+// By 12, with no transfer.
+pub(crate) fn no_shunt(check: bool) -> Start {
+    set_up(check, with(0, 50, 20, 2800, 4200))
+}
+
+// By 13, with no transfer.
+pub(crate) fn overcurrent(check: bool) -> Start {
+    set_up(check, with(1000, 1000, 20, 2800, 4200))
 }

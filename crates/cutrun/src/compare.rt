@@ -62,7 +62,7 @@ fn same_init(a: Init, b: Init) -> bool {
     same_answer(a_answer, b_answer) & same_record(a_device, b_device)
 }
 
-pub fn same(a: Outcome, b: Outcome) -> bool {
+pub(crate) fn same(a: Outcome, b: Outcome) -> bool {
     let a_init = a.init;
     let b_init = b.init;
     let a_chip = a.bench.chip;

@@ -1,17 +1,60 @@
-// A line for each cut of an init: its answer, registers 05 to 0B and the record's mark and shunt then, and whether a second init on a whole bus ends
-// as one that was never cut.
+// A line for each start: what its init answers and leaves, at how many places it was cut, and after how many of these cuts an init on a whole bus
+// ended as if nothing had been cut before it. A cut after which one did not has a line of its own.
 use crate::bench;
-use crate::bench::Cut;
 use crate::bench::Outcome;
+use crate::bench::Place;
 use crate::bench::Start;
+use crate::cases;
 use crate::compare;
+use crate::tally::Tally;
 use bq769x0::BQ769x0;
 use chip::Chip;
+use plan::Config;
 
-fn registers(chip: Chip) {
-    text::words(b", 05 to 0B");
-    for r in 0x05..0x0C {
-        text::hex(chip.regs[r]);
+// The init after a cut: with the record that the cut left or with a new one, and of this configuration.
+struct After {
+    anew: bool,
+    config: Config,
+}
+
+impl After {
+    fn on(self, chip: Chip, device: BQ769x0) -> Start {
+        let config = self.config;
+        if self.anew {
+            return Start {
+                chip,
+                device: cases::anew(device),
+                config,
+            };
+        }
+        Start {
+            chip,
+            device,
+            config,
+        }
+    }
+}
+
+// A register whose byte is not as it was, and whether it is such.
+fn register(r: u8, before: u8, byte: u8) -> bool {
+    if byte == before {
+        return false;
+    }
+    text::words(b",");
+    text::hex(r);
+    text::words(b" is");
+    text::hex(byte);
+    true
+}
+
+fn registers(before: Chip, chip: Chip) {
+    let mut any = false;
+    for r in 0..=255 {
+        let i = r as usize;
+        any = register(r, before.regs[i], chip.regs[i]) | any;
+    }
+    if !any {
+        text::words(b", no register new");
     }
 }
 
@@ -22,73 +65,134 @@ fn record(device: BQ769x0) {
     text::number(device.shunt.0 as u64);
 }
 
-fn left(run: Outcome) {
+fn answer(run: Outcome) {
     let init = run.init;
     let answer = init.answer;
-    let device = init.device;
-    let chip = run.bench.chip;
-    text::words(b": answer");
+    text::words(b" answer");
     text::number(answer.number() as u64);
-    registers(chip);
-    record(device);
 }
 
-fn cut_at(name: &[u8], cut: Cut) {
-    text::words(name);
-    text::words(b", transfer");
-    text::number(cut.transfer as u64);
-    text::words(b" cut after");
-    text::number(cut.bytes as u64);
-}
-
-fn second(same: bool) {
-    if same {
-        text::words(b", second init same\n");
-    } else {
-        text::words(b", second init DIFFERS\n");
-    }
-}
-
-fn line(name: &[u8], start: Start, whole: Outcome, cut: Cut) {
-    let first = bench::run(start, cut);
-    cut_at(name, cut);
-    left(first);
-    let again = bench::run(after(first, start), Cut::none());
-    second(compare::same(again, whole));
-}
-
-fn after(run: Outcome, start: Start) -> Start {
-    let chip = run.bench.chip;
+// What a run from a start answers and leaves.
+fn left(start: Start, run: Outcome) {
     let device = run.init.device;
-    let config = start.config;
-    Start {
-        chip,
-        device,
-        config,
+    let before = start.chip;
+    let chip = run.bench.chip;
+    text::words(b":");
+    answer(run);
+    record(device);
+    registers(before, chip);
+}
+
+// A start's name, and the build.
+pub(crate) fn title(name: &[u8], start: Start) {
+    let link = start.device.link;
+    text::words(name);
+    if link.check {
+        text::words(b" with checks");
     }
 }
 
-fn each_byte(name: &[u8], start: Start, whole: Outcome, transfer: usize, size: usize) {
-    for bytes in 0..=size {
-        line(name, start, whole, Cut { transfer, bytes });
-    }
+pub(crate) fn cut_at(place: Place) {
+    text::words(b", transfer");
+    text::number(place.transfer as u64);
+    text::words(b" cut after");
+    text::number(place.bytes as u64);
 }
 
-fn each_transfer(name: &[u8], start: Start, whole: Outcome) {
-    let made = whole.bench.made;
-    let sizes = whole.bench.sizes;
-    for k in 0..bench::MOST {
-        if k < made {
-            each_byte(name, start, whole, k, sizes[k]);
+// What a cut leaves.
+fn line(name: &[u8], start: Start, place: Place) {
+    let cut = bench::run(start, place);
+    title(name, start);
+    cut_at(place);
+    left(start, cut);
+    text::words(b"\n");
+}
+
+// Whether the init after a cut ends as this one; a line where it does not.
+fn same(
+    name: &[u8],
+    what: &[u8],
+    start: Start,
+    after: After,
+    whole: Outcome,
+    place: Place,
+) -> bool {
+    let cut = bench::run(start, place);
+    let chip = cut.bench.chip;
+    let device = cut.init.device;
+    let then = bench::run(after.on(chip, device), Place::none());
+    if compare::same(then, whole) {
+        return true;
+    }
+    text::words(what);
+    text::words(b" DIFFERS after ");
+    line(name, start, place);
+    false
+}
+
+// That init with nothing cut before it.
+fn uncut(start: Start, after: After) -> Outcome {
+    let chip = start.chip;
+    let device = start.device;
+    bench::run(after.on(chip, device), Place::none())
+}
+
+fn each(name: &[u8], what: &[u8], start: Start, after: After) -> Tally {
+    let first = bench::run(start, Place::none());
+    let whole = uncut(start, after);
+    let mut tally = Tally::none();
+    let mut place = Place::first();
+    for n in 0..bench::PLACES {
+        if first.has(place) {
+            tally = tally.counted(same(name, what, start, after, whole, place));
+            place = first.next(place);
         }
     }
+    tally
 }
 
-pub fn all(name: &[u8], start: Start) {
-    let whole = bench::run(start, Cut::none());
-    text::words(name);
-    text::words(b", whole");
-    left(whole);
+fn counted(kept: Tally, lost: Tally, otherwise: Tally) {
+    text::words(b"; cut at");
+    text::number(kept.tried);
+    text::words(b" places, then as if never cut:");
+    text::number(kept.same);
+    text::words(b" again,");
+    text::number(lost.same);
+    text::words(b" with a new record,");
+    text::number(otherwise.same);
+    text::words(b" of another configuration,");
+}
+
+// A start's line.
+pub(crate) fn all(name: &[u8], start: Start, other: Config) {
+    let config = start.config;
+    let again = After {
+        anew: false,
+        config,
+    };
+    let anew = After { anew: true, config };
+    let otherwise = After {
+        anew: false,
+        config: other,
+    };
+    let kept = each(name, b"again", start, again);
+    let lost = each(name, b"with a new record", start, anew);
+    let last = each(name, b"of another configuration", start, otherwise);
+    title(name, start);
+    left(start, bench::run(start, Place::none()));
+    counted(kept, lost, last);
+    answer(uncut(start, otherwise));
     text::words(b"\n");
-    each_transfer(name, start, whole);
+}
+
+// A line for each place.
+pub(crate) fn shown(name: &[u8], start: Start) {
+    let first = bench::run(start, Place::none());
+    let mut place = Place::first();
+    for n in 0..bench::PLACES {
+        if first.has(place) {
+            line(name, start, place);
+            place = first.next(place);
+        }
+    }
 }

@@ -6,10 +6,10 @@ use Rattle.cutrun.proofs.bench.run.Statement.{statement}
 use Rattle.cutrun.proofs.bench.run.Tie as tie
 
 abbrev Inv-loop : tie.InvT-loop
-Inv-loop cut device config bench₀ k₀ bench k = Unit {0}
+Inv-loop place device config bench₀ k₀ bench k = Unit {0}
 
 abbrev μ-loop : tie.MeasureT-loop
-μ-loop cut device config bench₀ k₀ bench k = 8 - k
+μ-loop place device config bench₀ k₀ bench k = 8 - k
 
 new-requires : tie.Need-new-requires Inv-loop μ-loop
 new-requires c κs = search needs
