@@ -21,12 +21,12 @@ use Rattle.bus.specs.Raw.{sound, Done, Read, gives, refuses, plainly, received,
 use Rattle.bus.specs.Raw.{readRaw, wrote, askWrite, send, compared, verified, askBack, writeRaw}
 use Rattle.bus.specs.declared.link.Link.{Link}
 use Rattle.chip.specs.Devices.{Reached, reached, onDevice}
-use Rattle.chip.specs.Chip.{withRegs, stores, held, respondCut}
+use Rattle.chip.specs.Chip.{withRegs, stores, newBytes, held, respondCut}
 use Rattle.chip.specs.OnChip.{Matches, Wired, next, onWire, onChip}
 use Rattle.chip.specs.declared.Chip.{Chip}
 use Rattle.chip.proofs.Devices.{went-on, went-off}
 use Rattle.chip.proofs.Shows.{held-put, delivers, read-part, plain-part}
-use Rattle.chip.proofs.FirstPart.{newBytes, ended, part-stored, first-part}
+use Rattle.chip.proofs.FirstPart.{ended, part-stored, first-part}
 
 -- ---- the calls as programs, where nothing refuses them beforehand
 

@@ -1,5 +1,6 @@
 mod Forms
 mod Left
+mod Calibrated
 mod Cut
 pub mod Whole
 pub mod Again
