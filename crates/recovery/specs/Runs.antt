@@ -6,6 +6,7 @@ use mathlib.Core.List.{List, [], _∷_, _++_}
 use mathlib.Core.Option.{Option, none, some}
 use Prim.Native.Nat.{ℕ, _+_, _-_, _≤_, max}
 use lib.ListN.{length, take, drop}
+use denote.Ref.{now}
 use Rattle.refusals.specs.Refusal.{Answer}
 use Rattle.plan.specs.Steps.{InMv}
 use Rattle.plan.specs.Plan.{asInit}
@@ -13,6 +14,7 @@ use Rattle.plan.specs.declared.Config.{Config}
 use Rattle.laws.specs.Choice.{if_then_else_}
 use Rattle.bus.specs.Transfers.{Transfer, tapeField, busOf}
 use Rattle.bus.specs.Programs.{onTape, ran}
+use Rattle.bus.specs.Lent.{Lent}
 use Rattle.bus.specs.declared.Cursor.{Cursor}
 use Rattle.bus.specs.Decoders.{transfersIn}
 use Rattle.bq769x0.specs.Record.{leaves}
@@ -33,6 +35,16 @@ pub record Call : Type 0 where
   pub at : Cursor
   pub gave : Init
   pub log′ : List ℕ
+
+-- of a function with a lent tape and log
+abbrev pub lentCall : Lent → Lent → Cursor → Init → Call
+lentCall tape log at gave = record {
+  tape = now (tape .entry);
+  log = now (log .entry);
+  at = at;
+  gave = gave;
+  log′ = now (log .exit);
+}
 
 -- enough log
 abbrev pub enough : Bool → ℕ
