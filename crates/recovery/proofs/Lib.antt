@@ -11,3 +11,4 @@ pub mod Live
 pub mod OfBytes
 pub mod OnModel
 pub mod Demand3
+pub mod Instance
