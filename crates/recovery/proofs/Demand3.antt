@@ -5,6 +5,7 @@ use mathlib.Core.Bool.{true, false}
 use mathlib.Core.List.{List}
 use mathlib.Core.Option.{Option, some}
 use Prim.Native.Nat.{ℕ}
+use lib.ListN.{length}
 use Rattle.refusals.specs.Refusal.{Refusal, Answer, value, refused, nine}
 use Rattle.check_byte.specs.CheckByte.{Bytes}
 use Rattle.plan.specs.Steps.{InMv, stepsFor}
@@ -21,13 +22,15 @@ use Rattle.procedure.proofs.Keeps.{init-keeps}
 use Rattle.chip.specs.Devices.{Reached, reached, onDevice}
 use Rattle.chip.specs.OnChip.{Matches, Wired, uncut, onChip}
 use Rattle.chip.specs.declared.Chip.{Chip}
+use Rattle.chip.proofs.InStep.{InStep}
 use Rattle.recovery.specs.Recovery.{planOn, Leaves}
 use Rattle.recovery.specs.Runs.{Call, on, Run, transfers, leftBy, Runs, none-yet, one-more, lost, newOf}
 use Rattle.recovery.specs.Demand3.{ByItsLog, Alike, AsAtFirst, Refuses, Recovers, Survives}
 use Rattle.recovery.proofs.Left.{at-first, begun-again, all-new}
 use Rattle.recovery.proofs.Cut.{stays}
 use Rattle.recovery.proofs.Again.{anew, stays-refused, again}
-use Rattle.recovery.proofs.ByLog.{as-on-chip, log-read, left-by-log, used-by-log}
+use Rattle.recovery.proofs.ByLog.{as-on-chip, is-added, log-read, left-by-log, is-used, used-by-log}
+use Rattle.recovery.proofs.SameLog.{in-step}
 use Rattle.recovery.proofs.OfBytes.{regs-of-bytes}
 
 -- ---- one run
@@ -52,14 +55,17 @@ module _ {choose : Config → Answer InMv} {config : Config} {d : BQ769x0} {w : 
     chip-is : leftBy w call ≡ r .device .chip
     chip-is = left-by-log run ∙ ap (λ (x : Reached Wired (Left Values)). x .device .chip) e
 
--- two of which the programs do the same
+-- two of which the programs do the same, in step
 alike : {choose : Config → Answer InMv} {config : Config} {d d′ : BQ769x0} {w w′ : Wired} {a b : Call}
     → Run choose config d w a → Run choose config d′ w′ b
-    → onChip (initBy choose d config) w ≡ onChip (initBy choose d′ config) w′ → Alike w w′ a b
-alike {a = a} {b = b} x y same = record {
+    → onChip (initBy choose d config) w ≡ onChip (initBy choose d′ config) w′
+    → InStep (initBy choose d config) w (initBy choose d′ config) w′ → Alike w w′ a b
+alike {a = a} {b = b} x y same steps = record {
   answer = answer-agree (a .gave .answer) (b .gave .answer) (answer-is x same ∙ sym (answer-is y refl));
   device = device-is x same ∙ sym (device-is y refl);
   chip = chip-is x same ∙ sym (chip-is y refl);
+  log = is-added x ∙ steps .log ∙ sym (is-added y);
+  tape = ap length (is-used x) ∙ steps .tape ∙ sym (ap length (is-used y));
 }
 
 -- 9, and nothing else
@@ -97,12 +103,17 @@ module _ {choose : Config → Answer InMv} {config : Config} {c : Chip} where
   bytes-then (lost runs e m) h = bytes-then runs h
 
   module _ {d d′ : BQ769x0} {c′ : Chip} (runs : Runs choose config c d d′ c′) where
+    in-step-then : isSound d ≡ true → (other : Config)
+        → InStep (initBy choose d′ other) (uncut c′) (initBy choose d other) (uncut c)
+    in-step-then ok other = in-step choose config d c (matches runs) (left-then runs) ok (sound-then runs ok) other
+
     same-again : AsAtFirst runs config
-    same-again ok second first x y = alike x y (again choose config d c (matches runs) (left-then runs) ok (sound-then runs ok))
+    same-again ok second first x y =
+        alike x y (again choose config d c (matches runs) (left-then runs) ok (sound-then runs ok)) (in-step-then ok config)
 
     other-anew : (other : Config) (plan : Planned) → planOn choose other c ≡ value plan → AsAtFirst runs other
     other-anew other plan accepted ok second first x y =
-        alike x y (anew choose config d c (matches runs) (left-then runs) ok (sound-then runs ok) other plan accepted)
+        alike x y (anew choose config d c (matches runs) (left-then runs) ok (sound-then runs ok) other plan accepted) (in-step-then ok other)
 
     other-refused : isSound d ≡ true → (other : Config) (r : Refusal) → planOn choose other c ≡ refused r
         → (call : Call) → Run choose other d′ (uncut c′) call → Refuses runs other r call

@@ -10,5 +10,6 @@ pub mod EachRegister
 pub mod Live
 pub mod OfBytes
 pub mod OnModel
+pub mod SameLog
 pub mod Demand3
 pub mod Instance

@@ -19,7 +19,7 @@ use Rattle.chip.specs.Devices.{tapeOf}
 use Rattle.chip.specs.OnChip.{Wired, uncut, onWire, onChip}
 use Rattle.chip.specs.declared.Chip.{Chip}
 use Rattle.recovery.specs.Recovery.{calibrationOf, planOn, Leaves}
-use Rattle.recovery.specs.Runs.{Call, enough, on, Run, transfers, answersTo, readBack, used, leftBy, Runs, one-more, newOf}
+use Rattle.recovery.specs.Runs.{Call, enough, on, Run, transfers, answersTo, added, readBack, used, leftBy, Runs, one-more, newOf}
 
 -- The log of a call reads back as transfers. These leave on the chip what the program leaves there, and the bytes of the tape that the
 -- call used are the chip's answers to them.
@@ -28,11 +28,14 @@ pub record ByItsLog (choose : Config → Answer InMv) (config : Config) (d : BQ7
   pub chip : leftBy w call ≡ onChip (initBy choose d config) w .device .chip
   pub tape : used call ≡ answersTo (transfers (readBack call)) w
 
--- Two calls end alike: in the answer, the record, and the chip with all its registers.
+-- Two calls end alike: in the answer, the record, and the chip with all its registers; they log the same bytes, and use as many of their
+-- tapes.
 pub record Alike (w w′ : Wired) (a b : Call) : Type 0 where
   pub answer : a .gave .answer ≡ b .gave .answer
   pub device : a .gave .device ≡ b .gave .device
   pub chip : leftBy w a ≡ leftBy w′ b
+  pub log : added a ≡ added b
+  pub tape : length (used a) ≡ length (used b)
 
 module _ {choose : Config → Answer InMv} {config : Config} {c : Chip} {d d′ : BQ769x0} {c′ : Chip}
     (runs : Runs choose config c d d′ c′) where

@@ -70,6 +70,10 @@ abbrev pub transfers : Option (List Transfer) → List Transfer
 transfers none = []
 transfers (some ts) = ts
 
+-- what transfers leave on the chip, the last of them cut where the wire was
+abbrev pub leftOn : Wired → List Transfer → Chip
+leftOn w ts = fed (w .cuts (length ts - 1)) ts (w .chip)
+
 -- the chip's answers to transfers, one after the other, on tape
 unfoldable pub answersTo : List Transfer → Wired → List ℕ
 answersTo [] w = []
@@ -87,11 +91,9 @@ module _ (call : Call) where
   abbrev pub used : List ℕ
   used = drop (call .at .tape) (take (call .gave .at .tape) (call .tape))
 
--- what its transfers leave on the chip, the last of them cut where the wire was
+-- what its transfers leave on the chip
 abbrev pub leftBy : Wired → Call → Chip
-leftBy w call =
-    let ts = transfers (readBack call) in
-    fed (w .cuts (length ts - 1)) ts (w .chip)
+leftBy w call = leftOn w (transfers (readBack call))
 
 -- ---- one call after another
 
