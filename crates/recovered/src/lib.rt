@@ -9,6 +9,7 @@ ghost use Rattle.plan.specs.Plan.{asInit};
 ghost use Rattle.bus.specs.Lent.{lentBus, does};
 ghost use Rattle.bq769x0.specs.Record.{leaves};
 ghost use Rattle.procedure.specs.Init.{initBy};
+ghost use Rattle.recovered.specs.ForC as forC;
 ghost use Rattle.recovery.specs.Runs.{lentCall};
 ghost use Rattle.recovery.specs.Demand3.{Demand3};
 use bq769x0::BQ769x0;
@@ -26,7 +27,14 @@ pub fn init(device: BQ769x0, config: Config, tape: &[u8], log: &mut [u8], at: Cu
 // `bq769x0_init`, for C.
 pub fn init_for_c(job: &[u8], tape: &[u8], log: &mut [u8], out: &mut [u8; 36]) -> u8
     ensures { λ r. ⌜ handed r (now (out .exit)) (now (log .exit))
-        ≡ asC (onTape (jobInit (now (job .entry))) (lentBus tape log start)) ⌝ }
+        ≡ asC (onTape (jobInit (now (job .entry))) (lentBus tape log start))
+        × forC.Demand3 (now (job .entry)) (record {
+          tape = now (tape .entry);
+          log = now (log .entry);
+          number = r;
+          out = now (out .exit);
+          log′ = now (log .exit);
+        }) ⌝ }
 {
     firmware::bq769x0_init(job, tape, log, out)
 }

@@ -1,7 +1,7 @@
 mod Forms
-mod Left
+pub mod Left
 mod Calibrated
-mod Cut
+pub mod Cut
 pub mod Whole
 pub mod Again
 pub mod Asked

@@ -1,0 +1,212 @@
+-- Demand 3 for C proved, for every outcome that keeps the promise of `bq769x0_init`.
+-- Assumes nothing.
+use mathlib.Core.Path.{_≡_, refl, sym, ap, ap₂, subst, _∙_}
+use mathlib.Core.Bool.{Bool, true, false, false≢true}
+use mathlib.Core.List.{List, [], _++_}
+use mathlib.Core.Option.{Option, some}
+use Prim.Native.Nat.{ℕ, _+_, _/_, _%_, _≤_}
+use native.Mathlib.Omega.{arith}
+use lib.ListN.{length, take, drop}
+use Rattle.refusals.specs.Refusal.{Refusal, Answer, value, refused, no, numberOf}
+use Rattle.frames.specs.Put.{put}
+use Rattle.frames.proofs.Put.{take-put}
+use Rattle.numbers.specs.Numbers.{word8, four, eight}
+use Rattle.numbers.proofs.Bytes.{word4-four, word8-eight}
+use Rattle.plan.specs.Steps.{stepsFor}
+use Rattle.plan.specs.Plan.{Values}
+use Rattle.plan.specs.InNumbers.{initNumbers}
+use Rattle.plan.specs.declared.answer.InitNumbers.{InitNumbers}
+use Rattle.job.specs.Jobs.{isJob, deviceOf, configOf, jobOf}
+use Rattle.job.specs.declared.Device.{Device}
+use Rattle.bus.specs.Transfers.{Transfer, Bus, start, busOf, moved}
+use Rattle.bus.specs.Programs.{Prog, ret, Ran, onTape, bind, proceed, _>>=_}
+use Rattle.bus.specs.Raw.{Done}
+use Rattle.bus.specs.Decoders.{transfersIn}
+use Rattle.bus.specs.declared.Cursor.{Cursor}
+use Rattle.bq769x0.specs.Record.{Left, leaving, deviceFor, fresh, newFor, isSound}
+use Rattle.bq769x0.specs.declared.BQ769x0.{BQ769x0}
+use Rattle.bq769x0.proofs.Keeps.{new-sound}
+use Rattle.procedure.specs.Init.{initBy}
+use Rattle.chip.specs.Devices.{Reached, reached, onDevice, logOf, tapeOf}
+use Rattle.chip.specs.OnChip.{Matches, Wired, uncut, onWire, onChip}
+use Rattle.chip.specs.declared.Chip.{Chip}
+use Rattle.chip.proofs.Adequate.{adequate}
+use Rattle.chip.proofs.Fed.{transfersOf, log-decodes, fed-last}
+use Rattle.chip.proofs.Honest.{chip-honest}
+use Rattle.chip.proofs.InStep.{InStep, step-ret}
+use Rattle.recovery.specs.Recovery.{Leaves, brought, six}
+use Rattle.recovery.specs.Runs.{enough, on, transfers, leftOn}
+use Rattle.recovery.proofs.Asked.{Fine, LeftOff, fine-ret, init-fine}
+use Rattle.recovery.proofs.Again.{again}
+use Rattle.recovery.proofs.Cut.{stays}
+use Rattle.recovery.proofs.Left.{at-first, begun-again}
+use Rattle.recovery.proofs.SameLog.{in-step}
+use Rattle.job_setup.specs.JobInit.{noDevice, deviceMade, jobInit}
+use Rattle.firmware.specs.Handed.{Handed, handed, layout, asC}
+use Rattle.layout.specs.Layout.{laid}
+use Rattle.recovered.specs.ForC.{Call, Made, logUsed, readBack, leftBy, Calls, none-yet, one-more, linkOf, Alike, Recovers, Survives}
+
+-- ---- a job's program: nothing, or the `init` of a new record
+abbrev recordOf : List ℕ → BQ769x0
+recordOf job = let d = deviceOf job in fresh (d .x) (d .address) (d .cells) (d .check)
+
+data Program (job : List ℕ) : Type 0 where
+  refuses : (r : Refusal) → jobInit job ≡ ret (leaving noDevice r) → Program job
+  sets-up : isSound (recordOf job) ≡ true → jobInit job ≡ initBy stepsFor (recordOf job) (configOf job) → Program job
+
+program : (job : List ℕ) → Program job
+unfolding jobInit jobOf newFor _>>=_ bind proceed
+program job = by (isJob job) refl (deviceFor (deviceOf job .x) (deviceOf job .address) (deviceOf job .cells)) refl
+  where
+    by : (t : Bool) → isJob job ≡ t → (y : Answer Done)
+        → deviceFor (deviceOf job .x) (deviceOf job .address) (deviceOf job .cells) ≡ y → Program job
+    by false e y f = refuses (no 15 []) (rw e)
+    by true e (refused r) f = refuses r (rw (e, f))
+    by true e (value done) f =
+        sets-up (new-sound (deviceOf job .x) (deviceOf job .address) (deviceOf job .cells) (deviceOf job .check) (rw f) refl) (rw (e, f))
+
+most-log : (check : Bool) → enough check ≤ 52
+most-log true = omega arith
+most-log false = omega arith
+
+fine : (job : List ℕ) → Program job → Fine LeftOff 52 (jobInit job)
+fine job (refuses r e) = subst (Fine LeftOff 52) (sym e) (fine-ret LeftOff 52 _)
+fine job (sets-up ok e) =
+    let f = init-fine stepsFor (configOf job) (recordOf job) in
+    subst (Fine LeftOff 52) (sym e)
+    (record {
+      quits = f .quits;
+      short = f .short;
+      logs = record { most = λ move s. omega (arith, f .logs .most move s, most-log (deviceOf job .check)) };
+    })
+
+-- ---- the log's position, read from its eight bytes
+position : (at : Cursor) (numbers : InitNumbers) → logUsed (laid at numbers) ≡ at .log
+unfolding laid eight four
+position at numbers =
+    ap₂ word8 (word4-four (at .log / 4294967296)) (word4-four (at .log % 4294967296)) ∙ word8-eight (at .log)
+
+-- ---- one call
+module _ {job : List ℕ} {w : Wired} {call : Call} (made : Made job w call) where
+  abbrev p : Prog (Left Values)
+  p = jobInit job
+
+  abbrev before : Bus
+  before = busOf (call .tape) (call .log) start
+
+  abbrev then : Bus
+  then = moved (tapeOf onWire p w) (logOf onWire p w) before
+
+  few : length (logOf onWire p w) ≤ 52
+  few = fine job (program job) .logs .most onWire w
+
+  handed-is : handed (call .number) (call .out) (call .log′) ≡ asC (record { answer = onChip p w .answer; bus = then })
+  handed-is =
+      made .promise
+      ∙ ap asC (adequate onWire chip-honest p w before (made .rest) (made .answers) (omega (arith, few, made .room)) .ran)
+
+  number-is : call .number ≡ numberOf (onChip p w .answer .answer)
+  number-is = ap (λ (h : Handed). h .number) handed-is
+
+  out-is : call .out ≡ layout (onChip p w .answer .answer) (then .at)
+  out-is = ap (λ (h : Handed). h .out) handed-is
+
+  log-is : call .log′ ≡ put (call .log) 0 (logOf onWire p w)
+  unfolding moved
+  log-is = ap (λ (h : Handed). h .log) handed-is
+
+  read-back : readBack call ≡ some (transfersOf p w)
+  unfolding moved
+  read-back =
+      let l = logOf onWire p w in
+      let end = ap logUsed out-is ∙ position (then .at) (initNumbers (onChip p w .answer .answer)) in
+      let bytes = ap₂ take end log-is ∙ take-put (call .log) 0 l (omega (arith, few, made .room)) in
+      ap (λ (b : List ℕ). transfersIn (length b) b) bytes ∙ log-decodes p w (fine job (program job) .short)
+
+  chip-is : leftBy w call ≡ onChip p w .device .chip
+  chip-is =
+      ap (λ (o : Option (List Transfer)). leftOn w (transfers o)) read-back
+      ∙ sym (fed-last (fine job (program job) .quits) w)
+
+-- two that do the same, in step
+alike : {job : List ℕ} {w w′ : Wired} {a b : Call} → Made job w a → Made job w′ b
+    → onChip (jobInit job) w .answer ≡ onChip (jobInit job) w′ .answer
+    → onChip (jobInit job) w .device .chip ≡ onChip (jobInit job) w′ .device .chip
+    → InStep (jobInit job) w (jobInit job) w′ → Alike w w′ a b
+unfolding moved
+alike x y answers chips steps =
+    record {
+      number = number-is x ∙ ap (λ (l : Left Values). numberOf (l .answer)) answers ∙ sym (number-is y);
+      out =
+          out-is x
+          ∙ ap₂ (λ (l : Left Values) (at : Cursor). layout (l .answer) at) answers
+          (ap₂ (λ (t l : ℕ). record { tape = 0 + t; log = 0 + l }) (steps .tape) (ap length (steps .log)))
+          ∙ sym (out-is y);
+      log = λ same. log-is x ∙ ap₂ (λ (old new : List ℕ). put old 0 new) same (steps .log) ∙ sym (log-is y);
+      chip = chip-is x ∙ chips ∙ sym (chip-is y);
+    }
+
+-- ---- any number of them
+module _ (job : List ℕ) (c : Chip) (m : Matches (linkOf job) c) where
+  abbrev Now : ℕ → Chip → Type 0
+  Now n c′ = Leaves stepsFor (configOf job) (recordOf job) c n (recordOf job) c′
+
+  nothing : (r : Refusal) → jobInit job ≡ ret (leaving noDevice r) → (w : Wired) → onChip (jobInit job) w ≡ reached (leaving noDevice r) w
+  unfolding onDevice
+  nothing r e w = ap (λ (p : Prog (Left Values)). onChip p w) e
+
+  same-chip : (r : Refusal) → jobInit job ≡ ret (leaving noDevice r) → {c′ : Chip} → Calls job c c′ → c′ ≡ c
+  same-chip r e none-yet = refl
+  same-chip r e (one-more {c′ = c′} calls cuts call made) =
+      chip-is made
+      ∙ ap (λ (x : Reached Wired (Left Values)). x .device .chip) (nothing r e (on c′ cuts))
+      ∙ same-chip r e calls
+
+  left-then : isSound (recordOf job) ≡ true → jobInit job ≡ initBy stepsFor (recordOf job) (configOf job)
+      → {c′ : Chip} → Calls job c c′ → (n : ℕ) × Now n c′
+  left-then ok e none-yet = (0, at-first)
+  left-then ok e (one-more {c′ = c′} calls cuts call made) =
+      let before = left-then ok e calls in
+      let w = on c′ cuts in
+      let after = stays stepsFor (configOf job) (recordOf job) c m (before .0) (recordOf job) w (before .1) in
+      let same = chip-is made ∙ ap (λ (p : Prog (Left Values)). onChip p w .device .chip) e in
+      (_, subst (Now _) (sym same) (begun-again after (recordOf job)))
+
+  leaves-then : Program job → {c′ : Chip} → Calls job c c′ → (n : ℕ) × Now n c′
+  leaves-then (refuses r e) calls = (0, subst (Now 0) (sym (same-chip r e calls)) at-first)
+  leaves-then (sets-up ok e) calls = left-then ok e calls
+
+  again-alike : Program job → {c′ : Chip} → Calls job c c′
+      → (second first : Call) → Made job (uncut c′) second → Made job (uncut c) first → Alike (uncut c′) (uncut c) second first
+  again-alike (refuses r e) {c′} calls second first x y =
+      let a = nothing r e (uncut c′) in
+      let b = nothing r e (uncut c) in
+      alike x y
+      (ap (λ (z : Reached Wired (Left Values)). z .answer) (a ∙ ap (λ (k : Chip). reached (leaving noDevice r) (uncut k)) (same-chip r e calls) ∙ sym b))
+      (ap (λ (z : Reached Wired (Left Values)). z .device .chip) a ∙ same-chip r e calls
+      ∙ sym (ap (λ (z : Reached Wired (Left Values)). z .device .chip) b))
+      (subst (λ (p : Prog (Left Values)). InStep p (uncut c′) p (uncut c)) (sym e) (step-ret _ _ _ _))
+  again-alike (sets-up ok e) {c′} calls second first x y =
+      let l = left-then ok e calls .1 in
+      let same = again stepsFor (configOf job) (recordOf job) c m l ok ok in
+      let both =
+      ap (λ (p : Prog (Left Values)). onChip p (uncut c′)) e ∙ same ∙ sym (ap (λ (p : Prog (Left Values)). onChip p (uncut c)) e) in
+      alike x y
+      (ap (λ (z : Reached Wired (Left Values)). z .answer) both)
+      (ap (λ (z : Reached Wired (Left Values)). z .device .chip) both)
+      (subst (λ (p : Prog (Left Values)). InStep p (uncut c′) p (uncut c)) (sym e)
+      (in-step stepsFor (configOf job) (recordOf job) c m l ok ok (configOf job)))
+
+  recovers : {c′ : Chip} → Calls job c c′ → Recovers job c c′
+  recovers calls =
+      let l = leaves-then (program job) calls in
+      record {
+        left = record { new = l .0; few = l .1 .few; on = l .1 .on; last = l .1 .last; chip = l .1 .chip };
+        again = again-alike (program job) calls;
+      }
+
+pub survives : {job : List ℕ} {c : Chip} {cuts : ℕ → Option ℕ} {call : Call} → Made job (on c cuts) call → Survives job c cuts call
+survives {job = job} {cuts = cuts} {call = call} made = record {
+  made = made;
+  recovers = λ {c₀} m calls. recovers job c₀ m (one-more calls cuts call made);
+}
