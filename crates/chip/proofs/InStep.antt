@@ -18,7 +18,7 @@ use Rattle.laws.specs.Choice.{if_then_else_}
 use Rattle.bus.specs.Fields.{field}
 use Rattle.bus.specs.Transfers.{Transfer, read, write, Outcome, tapeField}
 use Rattle.bus.specs.Programs.{Prog, ret, ask, bind, proceed, _orLeave_, _>>=_}
-use Rattle.bus.specs.Raw.{Read, Done, sound, wrote, verified, send, askBack, readRaw, readBytes, writeRaw}
+use Rattle.bus.specs.Raw.{Read, Done, sound, wrote, verified, send, askBack, readBytes, writeRaw}
 use Rattle.bus.specs.declared.link.Link.{Link}
 use Rattle.chip.specs.Devices.{Reached, reached, onDevice, logOf, tapeOf}
 use Rattle.chip.specs.Chip.{withRegs, held}

@@ -1,12 +1,12 @@
 -- Demand 3 for C proved, for every outcome that keeps the promise of `bq769x0_init`.
 -- Assumes nothing.
 use mathlib.Core.Path.{_≡_, refl, sym, ap, ap₂, subst, _∙_}
-use mathlib.Core.Bool.{Bool, true, false, false≢true}
-use mathlib.Core.List.{List, [], _++_}
+use mathlib.Core.Bool.{Bool, true, false}
+use mathlib.Core.List.{List, []}
 use mathlib.Core.Option.{Option, some}
 use Prim.Native.Nat.{ℕ, _+_, _/_, _%_, _≤_}
 use native.Mathlib.Omega.{arith}
-use lib.ListN.{length, take, drop}
+use lib.ListN.{length, take}
 use Rattle.refusals.specs.Refusal.{Refusal, Answer, value, refused, no, numberOf}
 use Rattle.frames.specs.Put.{put}
 use Rattle.frames.proofs.Put.{take-put}
@@ -17,9 +17,8 @@ use Rattle.plan.specs.Plan.{Values}
 use Rattle.plan.specs.InNumbers.{initNumbers}
 use Rattle.plan.specs.declared.answer.InitNumbers.{InitNumbers}
 use Rattle.job.specs.Jobs.{isJob, deviceOf, configOf, jobOf}
-use Rattle.job.specs.declared.Device.{Device}
 use Rattle.bus.specs.Transfers.{Transfer, Bus, start, busOf, moved}
-use Rattle.bus.specs.Programs.{Prog, ret, Ran, onTape, bind, proceed, _>>=_}
+use Rattle.bus.specs.Programs.{Prog, ret, onTape, bind, proceed, _>>=_}
 use Rattle.bus.specs.Raw.{Done}
 use Rattle.bus.specs.Decoders.{transfersIn}
 use Rattle.bus.specs.declared.Cursor.{Cursor}
@@ -34,17 +33,17 @@ use Rattle.chip.proofs.Adequate.{adequate}
 use Rattle.chip.proofs.Fed.{transfersOf, log-decodes, fed-last}
 use Rattle.chip.proofs.Honest.{chip-honest}
 use Rattle.chip.proofs.InStep.{InStep, step-ret}
-use Rattle.recovery.specs.Recovery.{Leaves, brought, six}
-use Rattle.recovery.specs.Runs.{enough, on, transfers, leftOn}
-use Rattle.recovery.proofs.Asked.{Fine, LeftOff, fine-ret, init-fine}
+use Rattle.recovery.specs.Recovery.{Leaves}
+use Rattle.recovery.specs.Runs.{on, transfers, leftOn}
+use Rattle.recovery.proofs.Asked.{Fine, LeftOff, fine-ret, init-fine, enough-most}
 use Rattle.recovery.proofs.Again.{again}
 use Rattle.recovery.proofs.Cut.{stays}
 use Rattle.recovery.proofs.Left.{at-first, begun-again}
 use Rattle.recovery.proofs.SameLog.{in-step}
-use Rattle.job_setup.specs.JobInit.{noDevice, deviceMade, jobInit}
+use Rattle.job_setup.specs.JobInit.{noDevice, jobInit}
 use Rattle.firmware.specs.Handed.{Handed, handed, layout, asC}
 use Rattle.layout.specs.Layout.{laid}
-use Rattle.recovered.specs.ForC.{Call, Made, logUsed, readBack, leftBy, Calls, none-yet, one-more, linkOf, Alike, Recovers, Survives}
+use Rattle.recovered.specs.ForC.{Call, Made, logUsed, readBack, leftBy, Calls, none-yet, one-more, linkOf, Alike, Recovers, Survives, Demand3}
 
 -- ---- a job's program: nothing, or the `init` of a new record
 abbrev recordOf : List ℕ → BQ769x0
@@ -65,10 +64,6 @@ program job = by (isJob job) refl (deviceFor (deviceOf job .x) (deviceOf job .ad
     by true e (value done) f =
         sets-up (new-sound (deviceOf job .x) (deviceOf job .address) (deviceOf job .cells) (deviceOf job .check) (rw f) refl) (rw (e, f))
 
-most-log : (check : Bool) → enough check ≤ 52
-most-log true = omega arith
-most-log false = omega arith
-
 fine : (job : List ℕ) → Program job → Fine LeftOff 52 (jobInit job)
 fine job (refuses r e) = subst (Fine LeftOff 52) (sym e) (fine-ret LeftOff 52 _)
 fine job (sets-up ok e) =
@@ -77,7 +72,7 @@ fine job (sets-up ok e) =
     (record {
       quits = f .quits;
       short = f .short;
-      logs = record { most = λ move s. omega (arith, f .logs .most move s, most-log (deviceOf job .check)) };
+      logs = record { most = λ move s. omega (arith, f .logs .most move s, enough-most (deviceOf job .check)) };
     })
 
 -- ---- the log's position, read from its eight bytes
@@ -130,11 +125,11 @@ module _ {job : List ℕ} {w : Wired} {call : Call} (made : Made job w call) whe
 
 -- two that do the same, in step
 alike : {job : List ℕ} {w w′ : Wired} {a b : Call} → Made job w a → Made job w′ b
-    → onChip (jobInit job) w .answer ≡ onChip (jobInit job) w′ .answer
-    → onChip (jobInit job) w .device .chip ≡ onChip (jobInit job) w′ .device .chip
-    → InStep (jobInit job) w (jobInit job) w′ → Alike w w′ a b
+    → onChip (jobInit job) w ≡ onChip (jobInit job) w′ → InStep (jobInit job) w (jobInit job) w′ → Alike w w′ a b
 unfolding moved
-alike x y answers chips steps =
+alike x y same steps =
+    let answers = ap (λ (r : Reached Wired (Left Values)). r .answer) same in
+    let chips = ap (λ (r : Reached Wired (Left Values)). r .device .chip) same in
     record {
       number = number-is x ∙ ap (λ (l : Left Values). numberOf (l .answer)) answers ∙ sym (number-is y);
       out =
@@ -179,21 +174,17 @@ module _ (job : List ℕ) (c : Chip) (m : Matches (linkOf job) c) where
   again-alike : Program job → {c′ : Chip} → Calls job c c′
       → (second first : Call) → Made job (uncut c′) second → Made job (uncut c) first → Alike (uncut c′) (uncut c) second first
   again-alike (refuses r e) {c′} calls second first x y =
-      let a = nothing r e (uncut c′) in
-      let b = nothing r e (uncut c) in
-      alike x y
-      (ap (λ (z : Reached Wired (Left Values)). z .answer) (a ∙ ap (λ (k : Chip). reached (leaving noDevice r) (uncut k)) (same-chip r e calls) ∙ sym b))
-      (ap (λ (z : Reached Wired (Left Values)). z .device .chip) a ∙ same-chip r e calls
-      ∙ sym (ap (λ (z : Reached Wired (Left Values)). z .device .chip) b))
-      (subst (λ (p : Prog (Left Values)). InStep p (uncut c′) p (uncut c)) (sym e) (step-ret _ _ _ _))
+      let same =
+      nothing r e (uncut c′)
+      ∙ ap (λ (k : Chip). reached (leaving noDevice r) (uncut k)) (same-chip r e calls)
+      ∙ sym (nothing r e (uncut c)) in
+      alike x y same (subst (λ (p : Prog (Left Values)). InStep p (uncut c′) p (uncut c)) (sym e) (step-ret _ _ _ _))
   again-alike (sets-up ok e) {c′} calls second first x y =
       let l = left-then ok e calls .1 in
       let same = again stepsFor (configOf job) (recordOf job) c m l ok ok in
       let both =
       ap (λ (p : Prog (Left Values)). onChip p (uncut c′)) e ∙ same ∙ sym (ap (λ (p : Prog (Left Values)). onChip p (uncut c)) e) in
-      alike x y
-      (ap (λ (z : Reached Wired (Left Values)). z .answer) both)
-      (ap (λ (z : Reached Wired (Left Values)). z .device .chip) both)
+      alike x y both
       (subst (λ (p : Prog (Left Values)). InStep p (uncut c′) p (uncut c)) (sym e)
       (in-step stepsFor (configOf job) (recordOf job) c m l ok ok (configOf job)))
 
@@ -205,8 +196,14 @@ module _ (job : List ℕ) (c : Chip) (m : Matches (linkOf job) c) where
         again = again-alike (program job) calls;
       }
 
-pub survives : {job : List ℕ} {c : Chip} {cuts : ℕ → Option ℕ} {call : Call} → Made job (on c cuts) call → Survives job c cuts call
+survives : {job : List ℕ} {c : Chip} {cuts : ℕ → Option ℕ} {call : Call} → Made job (on c cuts) call → Survives job c cuts call
 survives {job = job} {cuts = cuts} {call = call} made = record {
   made = made;
   recovers = λ {c₀} m calls. recovers job c₀ m (one-more calls cuts call made);
 }
+
+-- so a call that keeps the promise
+pub demand-3 : {job : List ℕ} {call : Call}
+    → handed (call .number) (call .out) (call .log′) ≡ asC (onTape (jobInit job) (busOf (call .tape) (call .log) start))
+    → Demand3 job call
+demand-3 promise c cuts rest answers room = survives (record { rest = rest; answers = answers; room = room; promise = promise })

@@ -20,9 +20,9 @@ use Rattle.laws.specs.Choice.{if_then_else_}
 use Rattle.bq769x0.specs.Record.{Left, leaves, leaving, accepts, isSound, withCalibration, withShunt}
 use Rattle.procedure.specs.Init.{initBy}
 use Rattle.bq769x0.specs.declared.BQ769x0.{BQ769x0}
-use Rattle.chip.specs.Devices.{Reached, reached}
+use Rattle.chip.specs.Devices.{reached}
 use Rattle.chip.specs.Chip.{withRegs}
-use Rattle.chip.specs.OnChip.{Matches, Wired, uncut, onChip}
+use Rattle.chip.specs.OnChip.{Matches, uncut, onChip}
 use Rattle.chip.specs.declared.Chip.{Chip}
 use Rattle.recovery.specs.Recovery.{calibrationOf, planOn, bytesOf, counted, regsLeft, six}
 use Rattle.recovery.specs.Recovery.{Recorded, as-it-was, calibrated, marked, Leaves}

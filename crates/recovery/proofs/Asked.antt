@@ -186,3 +186,8 @@ init-fine choose config d =
         → Fine LeftOff (14 + protectLog (d .link .check)) (if not t then ret (leaving d nine) else p)
     by true h = h
     by false h = fine-ret LeftOff _ _
+
+-- in either build
+pub enough-most : (check : Bool) → enough check ≤ 52
+enough-most true = omega arith
+enough-most false = omega arith

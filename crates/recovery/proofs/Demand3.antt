@@ -13,8 +13,8 @@ use Rattle.plan.specs.Plan.{Values, Planned, asInit}
 use Rattle.plan.specs.declared.Config.{Config}
 use Rattle.plan.proofs.Agree.{answer-agree}
 use Rattle.bus.specs.Transfers.{Transfer, busOf}
-use Rattle.bus.specs.Programs.{Ran}
-use Rattle.bq769x0.specs.Record.{Left, leaving, isSound}
+use Rattle.bus.specs.Programs.{Ran, ran, onTape}
+use Rattle.bq769x0.specs.Record.{Left, leaves, leaving, isSound}
 use Rattle.bq769x0.specs.Registers.{soundly}
 use Rattle.bq769x0.specs.declared.BQ769x0.{BQ769x0}
 use Rattle.procedure.specs.Init.{initBy}
@@ -25,7 +25,7 @@ use Rattle.chip.specs.declared.Chip.{Chip}
 use Rattle.chip.proofs.InStep.{InStep}
 use Rattle.recovery.specs.Recovery.{planOn, Leaves}
 use Rattle.recovery.specs.Runs.{Call, on, Run, transfers, leftBy, Runs, none-yet, one-more, lost, newOf}
-use Rattle.recovery.specs.Demand3.{ByItsLog, Alike, AsAtFirst, Refuses, Recovers, Survives}
+use Rattle.recovery.specs.Demand3.{ByItsLog, Alike, AsAtFirst, Refuses, Recovers, Survives, Demand3}
 use Rattle.recovery.proofs.Left.{at-first, begun-again, all-new}
 use Rattle.recovery.proofs.Cut.{stays}
 use Rattle.recovery.proofs.Again.{anew, stays-refused, again}
@@ -132,7 +132,7 @@ module _ {choose : Config → Answer InMv} {config : Config} {c : Chip} where
     }
 
 -- ---- one call, whatever came before it
-pub survives : {config : Config} {d : BQ769x0} {c : Chip} {cuts : ℕ → Option ℕ} {call : Call} → Run stepsFor config d (on c cuts) call
+survives : {config : Config} {d : BQ769x0} {c : Chip} {cuts : ℕ → Option ℕ} {call : Call} → Run stepsFor config d (on c cuts) call
     → Survives config d c cuts call
 survives {config = config} {d = d} {c = c} {cuts = cuts} {call = call} run = record {
   run = run;
@@ -142,3 +142,10 @@ survives {config = config} {d = d} {c = c} {cuts = cuts} {call = call} run = rec
       (device-is run nothing, chip-is run nothing);
   recovers = λ runs. recovers (one-more runs cuts call run);
 }
+
+-- so a call that keeps `init`'s promise
+pub demand-3 : {config : Config} {d : BQ769x0} {call : Call}
+    → ran (leaves (asInit (call .gave .answer)) (call .gave .device)) (call .tape) (call .log′) (call .gave .at)
+    ≡ onTape (initBy stepsFor d config) (busOf (call .tape) (call .log) (call .at))
+    → Demand3 config d call
+demand-3 promise c cuts rest answers room = survives (record { rest = rest; answers = answers; room = room; promise = promise })

@@ -1,6 +1,6 @@
 -- `recovered::init` meets its contract. Assumes nothing.
 use borrow.Author.Needs.{needs}
-use Rattle.recovery.proofs.Demand3.{survives}
+use Rattle.recovery.proofs.Demand3.{demand-3}
 use Rattle.recovered.proofs.init.Statement.{statement}
 use Rattle.recovered.proofs.init.Tie as tie
 
@@ -11,9 +11,7 @@ same-length : tie.Need-same-length
 same-length c = search needs
 
 returns : tie.Need-returns
-returns c =
-    let promise = c .before .before .init .ensures in
-    (promise, λ chip cuts rest answers room. survives (record { rest = rest; answers = answers; room = room; promise = promise }))
+returns c = (c .before .before .init .ensures, demand-3 (c .before .before .init .ensures))
 
 pub init-spec : {M : Type 1} → statement M
 init-spec = tie.close (tie.spec init-requires same-length returns)
