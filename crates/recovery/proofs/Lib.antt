@@ -12,4 +12,5 @@ pub mod OfBytes
 pub mod OnModel
 pub mod SameLog
 pub mod Demand3
+pub mod Feigned
 pub mod Instance
