@@ -1,10 +1,10 @@
 -- Demand 3 for C proved, for every outcome that keeps the promise of `bq769x0_init`.
 -- Assumes nothing.
-use mathlib.Core.Path.{_≡_, refl, sym, ap, ap₂, subst, _∙_}
+use mathlib.Core.Path.{_≡_, refl, sym, ap, ap₂, subst, subst₂, _∙_}
 use mathlib.Core.Bool.{Bool, true, false}
 use mathlib.Core.List.{List, []}
 use mathlib.Core.Option.{Option, some}
-use Prim.Native.Nat.{ℕ, _+_, _/_, _%_, _≤_}
+use Prim.Native.Nat.{ℕ, _+_, _/_, _%_, _≤_, max}
 use native.Mathlib.Omega.{arith}
 use lib.ListN.{length, take}
 use Rattle.refusals.specs.Refusal.{Refusal, Answer, value, refused, no, numberOf}
@@ -12,6 +12,7 @@ use Rattle.frames.specs.Put.{put}
 use Rattle.frames.proofs.Put.{take-put}
 use Rattle.numbers.specs.Numbers.{word8, four, eight}
 use Rattle.numbers.proofs.Bytes.{word4-four, word8-eight}
+use Rattle.plan.specs.Order as order
 use Rattle.plan.specs.Steps.{stepsFor}
 use Rattle.plan.specs.Plan.{Values}
 use Rattle.plan.specs.InNumbers.{initNumbers}
@@ -33,7 +34,7 @@ use Rattle.chip.proofs.Adequate.{adequate}
 use Rattle.chip.proofs.Fed.{transfersOf, log-decodes, fed-last}
 use Rattle.chip.proofs.Honest.{chip-honest}
 use Rattle.chip.proofs.InStep.{InStep, step-ret}
-use Rattle.recovery.specs.Recovery.{Leaves}
+use Rattle.recovery.specs.Recovery.{six, Leaves}
 use Rattle.recovery.specs.Runs.{on, transfers, leftOn}
 use Rattle.recovery.proofs.Asked.{Fine, LeftOff, fine-ret, init-fine, enough-most}
 use Rattle.recovery.proofs.Again.{again}
@@ -43,30 +44,32 @@ use Rattle.recovery.proofs.SameLog.{in-step}
 use Rattle.job_setup.specs.JobInit.{noDevice, jobInit}
 use Rattle.firmware.specs.Handed.{Handed, handed, layout, asC}
 use Rattle.layout.specs.Layout.{laid}
-use Rattle.recovered.specs.ForC.{Call, Made, logUsed, readBack, leftBy, Calls, none-yet, one-more, linkOf, Alike, Recovers, Survives, Demand3}
+use Rattle.recovered.specs.ForC.{Call, Made, logUsed, readBack, leftBy, Calls, none-yet, one-more, recordFor, broughtBy, newOf, linkOf, Alike, Recovers, Survives, Demand3}
 
 -- ---- a job's program: nothing, or the `init` of a new record
 abbrev recordOf : List ℕ → BQ769x0
 recordOf job = let d = deviceOf job in fresh (d .x) (d .address) (d .cells) (d .check)
 
 data Program (job : List ℕ) : Type 0 where
-  refuses : (r : Refusal) → jobInit job ≡ ret (leaving noDevice r) → Program job
-  sets-up : isSound (recordOf job) ≡ true → jobInit job ≡ initBy stepsFor (recordOf job) (configOf job) → Program job
+  refuses : (r : Refusal) → recordFor job ≡ refused r → jobInit job ≡ ret (leaving noDevice r) → Program job
+  sets-up : isSound (recordOf job) ≡ true → recordFor job ≡ value (recordOf job)
+      → jobInit job ≡ initBy stepsFor (recordOf job) (configOf job) → Program job
 
 program : (job : List ℕ) → Program job
-unfolding jobInit jobOf newFor _>>=_ bind proceed
+unfolding jobInit recordFor jobOf newFor order._>>=_ _>>=_ bind proceed
 program job = by (isJob job) refl (deviceFor (deviceOf job .x) (deviceOf job .address) (deviceOf job .cells)) refl
   where
     by : (t : Bool) → isJob job ≡ t → (y : Answer Done)
         → deviceFor (deviceOf job .x) (deviceOf job .address) (deviceOf job .cells) ≡ y → Program job
-    by false e y f = refuses (no 15 []) (rw e)
-    by true e (refused r) f = refuses r (rw (e, f))
+    by false e y f = refuses (no 15 []) (rw e) (rw e)
+    by true e (refused r) f = refuses r (rw (e, f)) (rw (e, f))
     by true e (value done) f =
-        sets-up (new-sound (deviceOf job .x) (deviceOf job .address) (deviceOf job .cells) (deviceOf job .check) (rw f) refl) (rw (e, f))
+        sets-up (new-sound (deviceOf job .x) (deviceOf job .address) (deviceOf job .cells) (deviceOf job .check) (rw f) refl)
+        (rw (e, f)) (rw (e, f))
 
 fine : (job : List ℕ) → Program job → Fine LeftOff 52 (jobInit job)
-fine job (refuses r e) = subst (Fine LeftOff 52) (sym e) (fine-ret LeftOff 52 _)
-fine job (sets-up ok e) =
+fine job (refuses r q e) = subst (Fine LeftOff 52) (sym e) (fine-ret LeftOff 52 _)
+fine job (sets-up ok q e) =
     let f = init-fine stepsFor (configOf job) (recordOf job) in
     subst (Fine LeftOff 52) (sym e)
     (record {
@@ -157,30 +160,41 @@ module _ (job : List ℕ) (c : Chip) (m : Matches (linkOf job) c) where
       ∙ ap (λ (x : Reached Wired (Left Values)). x .device .chip) (nothing r e (on c′ cuts))
       ∙ same-chip r e calls
 
-  left-then : isSound (recordOf job) ≡ true → jobInit job ≡ initBy stepsFor (recordOf job) (configOf job)
-      → {c′ : Chip} → Calls job c c′ → (n : ℕ) × Now n c′
-  left-then ok e none-yet = (0, at-first)
-  left-then ok e (one-more {c′ = c′} calls cuts call made) =
-      let before = left-then ok e calls in
-      let w = on c′ cuts in
-      let after = stays stepsFor (configOf job) (recordOf job) c m (before .0) (recordOf job) w (before .1) in
-      let same = chip-is made ∙ ap (λ (p : Prog (Left Values)). onChip p w .device .chip) e in
-      (_, subst (Now _) (sym same) (begun-again after (recordOf job)))
+  module _ (ok : isSound (recordOf job) ≡ true) (q : recordFor job ≡ value (recordOf job))
+      (e : jobInit job ≡ initBy stepsFor (recordOf job) (configOf job)) where
+    left-then : {c′ : Chip} (calls : Calls job c c′) → Now (newOf calls) c′
+    unfolding newOf
+    left-then none-yet = at-first
+    left-then (one-more {c′ = c′} calls cuts call made) =
+        let w = on c′ cuts in
+        let after = stays stepsFor (configOf job) (recordOf job) c m (newOf calls) (recordOf job) w (left-then calls) in
+        let same = chip-is made ∙ ap (λ (p : Prog (Left Values)). onChip p w .device .chip) e in
+        let most : Answer BQ769x0 → ℕ = λ d. max (newOf calls) (broughtBy d cuts (six stepsFor (configOf job) c)) in
+        subst (Now (newOf (one-more calls cuts call made))) (sym same)
+        (subst (λ (n : ℕ). Now n (onChip (initBy stepsFor (recordOf job) (configOf job)) w .device .chip)) (ap most (sym q))
+        (begun-again after (recordOf job)))
 
-  leaves-then : Program job → {c′ : Chip} → Calls job c c′ → (n : ℕ) × Now n c′
-  leaves-then (refuses r e) calls = (0, subst (Now 0) (sym (same-chip r e calls)) at-first)
-  leaves-then (sets-up ok e) calls = left-then ok e calls
+  none-new : (r : Refusal) → recordFor job ≡ refused r → {c′ : Chip} (calls : Calls job c c′) → newOf calls ≡ 0
+  unfolding newOf
+  none-new r q none-yet = refl
+  none-new r q (one-more calls cuts call made) =
+      let none = ap (λ (d : Answer BQ769x0). broughtBy d cuts (six stepsFor (configOf job) c)) q in
+      omega (arith, none-new r q calls, none)
+
+  leaves-then : Program job → {c′ : Chip} (calls : Calls job c c′) → Now (newOf calls) c′
+  leaves-then (refuses r q e) calls = subst₂ Now (sym (none-new r q calls)) (sym (same-chip r e calls)) at-first
+  leaves-then (sets-up ok q e) calls = left-then ok q e calls
 
   again-alike : Program job → {c′ : Chip} → Calls job c c′
       → (second first : Call) → Made job (uncut c′) second → Made job (uncut c) first → Alike (uncut c′) (uncut c) second first
-  again-alike (refuses r e) {c′} calls second first x y =
+  again-alike (refuses r q e) {c′} calls second first x y =
       let same =
       nothing r e (uncut c′)
       ∙ ap (λ (k : Chip). reached (leaving noDevice r) (uncut k)) (same-chip r e calls)
       ∙ sym (nothing r e (uncut c)) in
       alike x y same (subst (λ (p : Prog (Left Values)). InStep p (uncut c′) p (uncut c)) (sym e) (step-ret _ _ _ _))
-  again-alike (sets-up ok e) {c′} calls second first x y =
-      let l = left-then ok e calls .1 in
+  again-alike (sets-up ok q e) {c′} calls second first x y =
+      let l = left-then ok q e calls in
       let same = again stepsFor (configOf job) (recordOf job) c m l ok ok in
       let both =
       ap (λ (p : Prog (Left Values)). onChip p (uncut c′)) e ∙ same ∙ sym (ap (λ (p : Prog (Left Values)). onChip p (uncut c)) e) in
@@ -188,13 +202,10 @@ module _ (job : List ℕ) (c : Chip) (m : Matches (linkOf job) c) where
       (subst (λ (p : Prog (Left Values)). InStep p (uncut c′) p (uncut c)) (sym e)
       (in-step stepsFor (configOf job) (recordOf job) c m l ok ok (configOf job)))
 
-  recovers : {c′ : Chip} → Calls job c c′ → Recovers job c c′
+  recovers : {c′ : Chip} (calls : Calls job c c′) → Recovers calls
   recovers calls =
       let l = leaves-then (program job) calls in
-      record {
-        left = record { new = l .0; few = l .1 .few; on = l .1 .on; last = l .1 .last; chip = l .1 .chip };
-        again = again-alike (program job) calls;
-      }
+      record { on = l .on; last = l .last; chip = l .chip; again = again-alike (program job) calls }
 
 survives : {job : List ℕ} {c : Chip} {cuts : ℕ → Option ℕ} {call : Call} → Made job (on c cuts) call → Survives job c cuts call
 survives {job = job} {cuts = cuts} {call = call} made = record {

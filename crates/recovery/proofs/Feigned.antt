@@ -1,9 +1,8 @@
 -- A driver that feigns the second `init`, answering as a good one with no transfer, does not end as the first: an `init` whose steps can be
 -- chosen makes transfers, and logs them.
 -- Assumes nothing.
-use mathlib.Core.Path.{_≡_, refl, sym, ap, subst, _∙_}
+use mathlib.Core.Path.{_≡_, refl, sym, ap, subst}
 use mathlib.Core.Bool.{true}
-use mathlib.Core.List.{List}
 use Prim.Native.Nat.{ℕ, _+_, _*_, _≤_}
 use native.Mathlib.Omega.{arith}
 use lib.ListN.{length, take, drop, replicate, length-append, length-take, length-drop, length-replicate}
@@ -26,7 +25,7 @@ use Rattle.chip.specs.Devices.{logOf}
 use Rattle.chip.specs.OnChip.{Wired, onWire}
 use Rattle.chip.proofs.Logs.{log-bind}
 use Rattle.chip.proofs.Raws.{one-read}
-use Rattle.recovery.specs.Runs.{Call, Run, added}
+use Rattle.recovery.specs.Runs.{Call, Run}
 use Rattle.recovery.specs.Demand3.{Alike}
 use Rattle.recovery.proofs.ByLog.{is-added}
 
