@@ -5,7 +5,7 @@ use mathlib.Core.Path.{_≡_, sym, ap, _∙_}
 use mathlib.Core.Bool.{Bool, true, false}
 use mathlib.Core.List.{List, [], _∷_}
 use mathlib.Core.Option.{Option, none, some}
-use Prim.Native.Nat.{ℕ, zero, suc, _+_, _-_, _≤_, _<_, min}
+use Prim.Native.Nat.{ℕ, zero, suc, _+_, _-_, _≤_, _<_}
 use native.Mathlib.Nat.{zero-min}
 use native.Mathlib.Omega.{arith}
 use lib.ListN.{length, take, getD, length-take}
@@ -17,15 +17,10 @@ use Rattle.frames.proofs.Checked.{length-checked}
 use Rattle.frames.proofs.Put.{take-before, drop-put}
 use Rattle.bus.specs.Transfers.{write, Outcome, done, fault}
 use Rattle.chip.specs.Devices.{reached}
-use Rattle.chip.specs.Chip.{withRegs, complete, stores, storedOf, written, acknowledged, answers, carried, respondCut}
+use Rattle.chip.specs.Chip.{withRegs, complete, stores, storedOf, written, acknowledged, newBytes, answers, carried, respondCut}
 use Rattle.chip.specs.declared.Chip.{Chip}
 use Rattle.chip.proofs.Answers.{answers-write, responds}
 use Rattle.chip.proofs.Stored.{accepted-all, complete-frame, begun-frame, none-complete, stored-bytes, stores-put}
-
--- how many bytes of the data are new: all of them, or those that were complete when the wire was cut; the register comes first
-abbrev pub newBytes : Bool → Option ℕ → List ℕ → ℕ
-newBytes check none bytes = length bytes
-newBytes check (some j) bytes = min (complete check (j - 1)) (length bytes)
 
 -- how it ends
 abbrev pub ended : Option ℕ → Outcome

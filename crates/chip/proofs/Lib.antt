@@ -8,6 +8,7 @@ pub mod Example
 pub mod Fed
 pub mod FirstPart
 pub mod Honest
+pub mod InStep
 pub mod Live
 pub mod Logged
 pub mod Logs

@@ -21,12 +21,12 @@ use Rattle.bus.specs.Raw.{sound, Done, Read, gives, refuses, plainly, received,
 use Rattle.bus.specs.Raw.{readRaw, wrote, askWrite, send, compared, verified, askBack, writeRaw}
 use Rattle.bus.specs.declared.link.Link.{Link}
 use Rattle.chip.specs.Devices.{Reached, reached, onDevice}
-use Rattle.chip.specs.Chip.{withRegs, stores, held, respondCut}
+use Rattle.chip.specs.Chip.{withRegs, stores, newBytes, held, respondCut}
 use Rattle.chip.specs.OnChip.{Matches, Wired, next, onWire, onChip}
 use Rattle.chip.specs.declared.Chip.{Chip}
 use Rattle.chip.proofs.Devices.{went-on, went-off}
 use Rattle.chip.proofs.Shows.{held-put, delivers, read-part, plain-part}
-use Rattle.chip.proofs.FirstPart.{newBytes, ended, part-stored, first-part}
+use Rattle.chip.proofs.FirstPart.{ended, part-stored, first-part}
 
 -- ---- the calls as programs, where nothing refuses them beforehand
 
@@ -36,7 +36,7 @@ judged true address buf o = checkedly address buf o
 judged false address buf o = plainly buf o
 
 module _ (link : Link) (ok : sound link ≡ true) where
-  one-read : (check : Bool) → link .check ≡ check
+  pub one-read : (check : Bool) → link .check ≡ check
       → (reg : ℕ) (buf : List ℕ) → reg + length buf ≤ 256 → 1 ≤ length buf → length buf ≤ 2 * link .x
       → readRaw link reg buf
       ≡ ask (read (link .address) reg (cond check 2 1 * length buf)) (λ o. ret (judged check (link .address) buf o))
@@ -47,7 +47,7 @@ module _ (link : Link) (ok : sound link ≡ true) where
       let one : 1 * length buf ≡ length buf = omega arith in
       rw (ok, e, le-ltb _ _ room, one)
 
-  one-write : (reg : ℕ) (bytes : List ℕ) → reg + length bytes ≤ 256 → 1 ≤ length bytes → length bytes ≤ 8
+  pub one-write : (reg : ℕ) (bytes : List ℕ) → reg + length bytes ≤ 256 → 1 ≤ length bytes → length bytes ≤ 8
       → send link reg bytes
       ≡ ask (write (link .address) (writeFrame (link .check) (link .address) reg bytes)) (λ o. ret (wrote o))
   unfolding send askWrite
@@ -127,10 +127,10 @@ module _ (link : Link) (ok : sound link ≡ true) (w : Wired) (m : Matches link 
 
     -- not cut there: all the bytes are new
     module _ (whole : w .cuts 0 ≡ none) where
-      abbrev new : Chip
+      abbrev pub new : Chip
       new = withRegs (w .chip) (put (w .chip .regs) reg bytes)
 
-      sent : onChip (send link reg bytes) w ≡ reached (value tt) (next w new)
+      pub sent : onChip (send link reg bytes) w ≡ reached (value tt) (next w new)
       unfolding wrote
       sent = sent-part ∙ rw (whole, take-length bytes)
 

@@ -19,9 +19,9 @@ use Rattle.bus.specs.Programs.{Prog, ret, ask, bind, proceed, _orLeave_, _>>=_}
 use Rattle.bus.specs.Raw.{Done, Read, gives, refuses, sound, plainly, received, whereRight, checkedly, plainRead, askFrame, checkedRead}
 use Rattle.bus.specs.Raw.{readRaw, readBytes, wrote, askWrite, send, verified, askBack, writeRaw}
 use Rattle.bus.specs.declared.link.Link.{Link}
-use Rattle.chip.specs.Devices.{tapeOf}
+use Rattle.chip.specs.Devices.{onDevice, tapeOf}
 use Rattle.chip.specs.Chip.{delivered}
-use Rattle.chip.specs.OnChip.{Wired, onWire}
+use Rattle.chip.specs.OnChip.{Wired, onWire, onChip}
 use Rattle.chip.proofs.RegisterBytes.{Sends, append-bytes, take-bytes, respond-bytes, tapeField-bytes}
 
 -- whatever bytes it is answered, it sends bytes, and ends with an answer of which R holds
@@ -40,6 +40,15 @@ tape-bytes (sends {t} {k} s more) w h =
     let b = respond-bytes (w .cuts 0) (w .chip) t h s in
     append-bytes (tapeField o) (tapeOf onWire (k o) w′) (tapeField-bytes o (b .answer))
     (tape-bytes (more o (b .answer)) w′ (b .device))
+
+-- and so are the registers that it leaves
+pub regs-bytes : {A : Type 0} {R : A → Type 0} {p : Prog A} → Sending R p
+    → (w : Wired) → Bytes (w .chip .regs) → Bytes (onChip p w .device .chip .regs)
+unfolding onDevice onWire
+regs-bytes (ends r) w h = h
+regs-bytes (sends {t} {k} s more) w h =
+    let b = respond-bytes (w .cuts 0) (w .chip) t h s in
+    regs-bytes (more (onWire w t .answer) (b .answer)) (onWire w t .device) (b .device)
 
 -- ---- one program after another
 module _ {A B : Type 0} {R : A → Type 0} {T : B → Type 0} where

@@ -1,5 +1,5 @@
--- The bus's calls on any wire: a read leaves the chip as it was and gives exactly its registers; a write leaves a first part of its
--- bytes new, and says done only with all of them. And of a `do` on any wire, what holds after its first call.
+-- The bus's calls on any wire: a read leaves the chip as it was and gives exactly its registers, or where it is cut a refusal; a write
+-- leaves a first part of its bytes new, and says done only with all of them. And of a `do` on any wire, what holds after its first call.
 -- Assumes nothing.
 use mathlib.Core.Path.{_≡_, refl, sym, ap, subst, _∙_}
 use mathlib.Core.Bool.{Bool, true, false}
@@ -8,6 +8,7 @@ use mathlib.Core.Option.{Option, none, some}
 use Prim.Native.Nat.{ℕ, _+_, _*_, _≤_, _<_}
 use lib.ListN.{length, take, replicate, length-replicate}
 use Rattle.refusals.specs.Refusal.{Refusal, Answer, value, refused, answering}
+use Rattle.refusals.proofs.Values.{refused-not, same-value}
 use Rattle.frames.specs.Frames.{right, readFrame}
 use Rattle.frames.specs.Put.{put}
 use Rattle.laws.specs.Choice.{if_then_else_}
@@ -16,11 +17,10 @@ use Rattle.bus.specs.Programs.{Prog, ret, _orLeave_, _>>=_}
 use Rattle.bus.specs.Raw.{Done, Read, sound, gives, refuses, plainly, whereRight, checkedly, readRaw, readBytes, writeRaw}
 use Rattle.bus.specs.declared.link.Link.{Link}
 use Rattle.chip.specs.Devices.{Reached, reached, onDevice}
-use Rattle.chip.specs.Chip.{withRegs, held}
+use Rattle.chip.specs.Chip.{withRegs, newBytes, held}
 use Rattle.chip.specs.OnChip.{Matches, Wired, next, onWire, onChip}
 use Rattle.chip.proofs.Devices.{device-bind, went-on, went-off}
 use Rattle.chip.proofs.Shows.{length-held, delivers}
-use Rattle.chip.proofs.FirstPart.{newBytes, new-few}
 use Rattle.chip.proofs.Raws.{judged, judged-right, reads, write-cut, write-leaves}
 
 -- ---- a read
@@ -57,22 +57,34 @@ module _ (link : Link) (ok : sound link ≡ true) (w : Wired) (m : Matches link 
         (reads link ok w m reg bytes (rw size room) (rw size few) (rw size most)
         ∙ ap (λ (k : ℕ). reached (given k (w .cuts 0)) (next w (w .chip))) size)
 
-    exactly : (cut : Option ℕ) (bytes : List ℕ) → answer (given n cut) ≡ value bytes
-        → bytes ≡ held reg n (w .chip .regs)
-    exactly none bytes e =
+    -- it is whole, or cut
+    pub read-whole : w .cuts 0 ≡ none → onChip (readBytes link reg n) w ≡ reached (value (held reg n (w .chip .regs))) (next w (w .chip))
+    read-whole e =
         let same = length-held reg n (w .chip .regs) ∙ sym (length-replicate {A = ℕ} n 0) in
         let right = judged-right (link .check) (link .address) (replicate n 0) (held reg n (w .chip .regs)) same in
-        cc (sym e ∙ ap answer right)
-    exactly (some j) bytes e =
-        let off = cut-refused (link .check) (link .address) (replicate n 0) (take j (frame n)) in
-        cc (sym (ap (λ (a : Answer Done). answering a (given n (some j) .bytes)) (off .1)) ∙ e)
+        read-gives
+        ∙ ap (λ (cut : Option ℕ). reached (answer (given n cut)) (next w (w .chip))) e
+        ∙ ap (λ (r : Read). reached (answer r) (next w (w .chip))) right
 
-    pub read-any : (onChip (readBytes link reg n) w .device .chip ≡ w .chip)
-        × ((bytes : List ℕ) → onChip (readBytes link reg n) w .answer ≡ value bytes → bytes ≡ held reg n (w .chip .regs))
-    read-any = (
-      ap (λ (r : Reached Wired (Answer (List ℕ))). r .device .chip) read-gives,
-      λ bytes e. exactly (w .cuts 0) bytes (sym (ap (λ (r : Reached Wired (Answer (List ℕ))). r .answer) read-gives) ∙ e),
-    )
+    pub read-broken : (j : ℕ) → w .cuts 0 ≡ some j
+        → (r : Refusal) × (onChip (readBytes link reg n) w ≡ reached (refused r) (next w (w .chip)))
+    read-broken j e =
+        let off = cut-refused (link .check) (link .address) (replicate n 0) (take j (frame n)) in (
+          off .0,
+          read-gives
+              ∙ ap (λ (cut : Option ℕ). reached (answer (given n cut)) (next w (w .chip))) e
+              ∙ ap (λ (a : Answer Done). reached (answering a (given n (some j) .bytes)) (next w (w .chip))) (off .1),
+        )
+
+    abbrev Exactly : Reached Wired (Answer (List ℕ)) → Type 0
+    Exactly r = (r .device .chip ≡ w .chip) × ((bytes : List ℕ) → r .answer ≡ value bytes → bytes ≡ held reg n (w .chip .regs))
+
+    pub read-any : Exactly (onChip (readBytes link reg n) w)
+    read-any = by (w .cuts 0) refl
+      where
+        by : (cut : Option ℕ) → w .cuts 0 ≡ cut → Exactly (onChip (readBytes link reg n) w)
+        by none e = subst Exactly (sym (read-whole e)) (refl, λ bytes q. sym (same-value q))
+        by (some j) e = let off = read-broken j e in subst Exactly (sym (off .1)) (refl, λ bytes q. refused-not q)
 
   -- ---- a write
   module _ (bytes : List ℕ) (other : 0 < reg) (room : reg + length bytes ≤ 256)
@@ -84,16 +96,11 @@ module _ (link : Link) (ok : sound link ≡ true) (w : Wired) (m : Matches link 
         let off = write-cut link ok w m reg bytes other room few most j e in
         cc (sym (ap (λ (r : Reached Wired (Answer Done)). r .answer) off) ∙ v)
 
-    pub write-any : (k : ℕ)
-        × (k ≤ length bytes)
-        × (onChip (writeRaw link reg bytes) w .device .chip ≡ withRegs (w .chip) (put (w .chip .regs) reg (take k bytes)))
-        × ((x : Done) → onChip (writeRaw link reg bytes) w .answer ≡ value x → k ≡ length bytes)
-    write-any = (
-      newBytes (link .check) (w .cuts 0) bytes,
-      new-few (link .check) (w .cuts 0) bytes,
-      write-leaves link ok w m reg bytes other room few most,
-      all-done (w .cuts 0) refl,
-    )
+    pub write-any : (onChip (writeRaw link reg bytes) w .device .chip
+        ≡ withRegs (w .chip) (put (w .chip .regs) reg (take (newBytes (link .check) (w .cuts 0) bytes) bytes)))
+        × ((x : Done) → onChip (writeRaw link reg bytes) w .answer ≡ value x
+        → newBytes (link .check) (w .cuts 0) bytes ≡ length bytes)
+    write-any = (write-leaves link ok w m reg bytes other room few most, all-done (w .cuts 0) refl)
 
 -- ---- a `do`
 module _ {A B : Type 0} (Q : Reached Wired B → Type 0) (leave : Refusal → B) (f : A → Prog B) where

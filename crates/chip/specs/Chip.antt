@@ -3,7 +3,7 @@
 use mathlib.Core.Bool.{Bool, true, false, _&&_}
 use mathlib.Core.List.{List, [], _∷_, _++_}
 use mathlib.Core.Option.{Option, none, some}
-use Prim.Native.Nat.{ℕ, zero, suc, _+_, _-_, _/_}
+use Prim.Native.Nat.{ℕ, zero, suc, _+_, _-_, _/_, min}
 use lib.ListN.{length, take, getD, set, replicate}
 use lib.Bits.{bitAnd}
 use lib.Dec.{eqb, leb}
@@ -77,6 +77,11 @@ written c (r ∷ bytes) = withRegs c (stores r (storedOf c r bytes) (c .regs))
 unfoldable pub acknowledged : Chip → List ℕ → Bool
 acknowledged c [] = true
 acknowledged c (r ∷ bytes) = eqb (length (storedOf c r bytes)) (complete (c .check) (length bytes))
+
+-- how many data bytes of a right frame are new: all of them, or those that were complete when the wire was cut; the register comes first
+abbrev pub newBytes : Bool → Option ℕ → List ℕ → ℕ
+newBytes check none bytes = length bytes
+newBytes check (some j) bytes = min (complete check (j - 1)) (length bytes)
 
 -- ---- a read
 

@@ -2,7 +2,7 @@
 -- the device itself. A job set up takes at most eight passes and 52 bytes of log, with a reading of the cells nine and 59.
 -- Assumes nothing.
 use mathlib.Core.Path.{_≡_}
-use mathlib.Core.Bool.{Bool, true, false, not}
+use mathlib.Core.Bool.{not}
 use mathlib.Core.List.{List, []}
 use mathlib.Core.Option.{some}
 use Prim.Native.Nat.{ℕ, _*_, _≤_}
@@ -31,23 +31,18 @@ use Rattle.firmware.specs.JobWired as by-wiring
 use Rattle.firmware.specs.JobWired.{jobWired}
 use Rattle.chip.specs.Devices.{Reached}
 use Rattle.chip.specs.Live.{passes, ended}
-use Rattle.recovery.specs.Runs.{enough}
-use Rattle.recovery.proofs.Asked.{init-fine}
+use Rattle.recovery.proofs.Asked.{init-fine, enough-most}
 use Rattle.recovery.proofs.Live.{init-makes}
 use Rattle.live.proofs.Small.{Small, small-live, small-ret, small-if, small-bind, small-call, small-pure, small-read}
 
 -- ---- a job set up
-most-log : (check : Bool) → enough check ≤ 52
-most-log true = omega arith
-most-log false = omega arith
-
 init-small : (config : Config) (d : BQ769x0) → Small 7 52 (initBy stepsFor d config)
 init-small config d =
     let f = init-fine stepsFor config d in
     record {
       short = f .short;
       makes = init-makes stepsFor config d;
-      logs = record { most = λ move s. omega (arith, f .logs .most move s, most-log (d .link .check)) };
+      logs = record { most = λ move s. omega (arith, f .logs .most move s, enough-most (d .link .check)) };
     }
 
 job-small : (job : List ℕ) → Small 7 52 (jobInit job)

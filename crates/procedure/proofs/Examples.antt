@@ -39,7 +39,7 @@ use Rattle.procedure.specs.Init.{onwardBy, onward, startCounter, protect
 abbrev device : BQ769x0
 device = fresh 5 8 5 false
 
-abbrev config : Config
+abbrev pub config : Config
 config = record {
   shunt = record { 0 = 1000 };
   «scd_delay» = SD.«_200uS»;

@@ -38,10 +38,10 @@ pub record Fine {A : Type 0} (Off : A → Type 0) (n : ℕ) (p : Prog A) : Type 
   pub logs : Logs n p
 
 -- a call that leaves a record
-abbrev LeftOff : {A : Type 0} → Left A → Type 0
+abbrev pub LeftOff : {A : Type 0} → Left A → Type 0
 LeftOff left = Refuses (left .answer)
 
-fine-ret : {A : Type 0} (Off : A → Type 0) (n : ℕ) (a : A) → Fine Off n (ret a)
+pub fine-ret : {A : Type 0} (Off : A → Type 0) (n : ℕ) (a : A) → Fine Off n (ret a)
 fine-ret Off n a = record { quits = ends; short = nothing; logs = logs-ret n a }
 
 module _ {A B : Type 0} (leave : Refusal → Left B) (f : A → Prog (Left B))
@@ -186,3 +186,8 @@ init-fine choose config d =
         → Fine LeftOff (14 + protectLog (d .link .check)) (if not t then ret (leaving d nine) else p)
     by true h = h
     by false h = fine-ret LeftOff _ _
+
+-- in either build
+pub enough-most : (check : Bool) → enough check ≤ 52
+enough-most true = omega arith
+enough-most false = omega arith

@@ -1,104 +1,151 @@
--- Demand 3, for the code by its promise: what an `init` that the bus fails leaves, and that it can be done again.
--- First the statements.
+-- Demand 3 proved, for every outcome that keeps `init`'s promise: each call by its log, runs of any number, and one call among them.
 -- Assumes nothing.
-use mathlib.Core.Path.{_≡_, sym, ap, subst₂, _∙_}
-use mathlib.Core.Bool.{true, false, false≢true}
+use mathlib.Core.Path.{_≡_, refl, sym, ap, subst, subst₂, _∙_}
+use mathlib.Core.Bool.{true, false}
 use mathlib.Core.List.{List}
 use mathlib.Core.Option.{Option, some}
 use Prim.Native.Nat.{ℕ}
-use Rattle.refusals.specs.Refusal.{Answer}
-use Rattle.plan.specs.Steps.{InMv}
-use Rattle.plan.specs.Plan.{Values}
+use lib.ListN.{length}
+use Rattle.refusals.specs.Refusal.{Refusal, Answer, value, refused, nine}
+use Rattle.check_byte.specs.CheckByte.{Bytes}
+use Rattle.plan.specs.Steps.{InMv, stepsFor}
+use Rattle.plan.specs.Plan.{Values, Planned, asInit}
 use Rattle.plan.specs.declared.Config.{Config}
 use Rattle.plan.proofs.Agree.{answer-agree}
 use Rattle.bus.specs.Transfers.{Transfer, busOf}
-use Rattle.bus.specs.Programs.{Ran}
-use Rattle.bq769x0.specs.Record.{Left, isSound}
-use Rattle.procedure.specs.Init.{initBy}
+use Rattle.bus.specs.Programs.{Ran, ran, onTape}
+use Rattle.bq769x0.specs.Record.{Left, leaves, leaving, isSound}
+use Rattle.bq769x0.specs.Registers.{soundly}
 use Rattle.bq769x0.specs.declared.BQ769x0.{BQ769x0}
+use Rattle.procedure.specs.Init.{initBy}
 use Rattle.procedure.proofs.Keeps.{init-keeps}
-use Rattle.chip.specs.Devices.{Reached}
+use Rattle.chip.specs.Devices.{Reached, reached, onDevice}
 use Rattle.chip.specs.OnChip.{Matches, Wired, uncut, onChip}
 use Rattle.chip.specs.declared.Chip.{Chip}
-use Rattle.recovery.specs.Recovery.{Recorded, as-it-was, calibrated, marked, Leaves}
-use Rattle.recovery.specs.Runs.{on, Run, transfers, readBack, leftBy, Runs, none-yet, one-more, Alike}
-use Rattle.recovery.proofs.Left.{at-first}
+use Rattle.chip.proofs.InStep.{InStep}
+use Rattle.recovery.specs.Recovery.{planOn, Leaves}
+use Rattle.recovery.specs.Runs.{Call, on, Run, transfers, leftBy, Runs, none-yet, one-more, lost, newOf}
+use Rattle.recovery.specs.Demand3.{ByItsLog, Alike, AsAtFirst, Refuses, Recovers, Survives, Demand3}
+use Rattle.recovery.proofs.Left.{at-first, begun-again, all-new}
 use Rattle.recovery.proofs.Cut.{stays}
-use Rattle.recovery.proofs.Again.{again}
-use Rattle.recovery.proofs.ByLog.{as-on-chip, log-read, left-by-log}
+use Rattle.recovery.proofs.Again.{anew, stays-refused, again}
+use Rattle.recovery.proofs.ByLog.{as-on-chip, is-added, log-read, left-by-log, is-used, used-by-log}
+use Rattle.recovery.proofs.SameLog.{in-step}
+use Rattle.recovery.proofs.OfBytes.{regs-of-bytes}
 
--- A run of the code, by its promise: its own log reads back as transfers, and these, the last one cut where the wire
--- was, leave on the chip what the program leaves there.
-pub record ByItsLog {choose : Config → Answer InMv} {config : Config} {d : BQ769x0} {w : Wired}
-    (run : Run choose config d w) : Type 0 where
-  pub reads-back : readBack run ≡ some (transfers (readBack run))
-  pub chip : leftBy run ≡ onChip (initBy choose d config) w .device .chip
+-- ---- one run
+module _ {choose : Config → Answer InMv} {config : Config} {d : BQ769x0} {w : Wired} {call : Call} (run : Run choose config d w call) where
+  pub by-log : ByItsLog choose config d w call
+  by-log =
+      let e = log-read run in
+      record {
+        reads-back = e ∙ ap (λ (o : Option (List Transfer)). some (transfers o)) (sym e);
+        chip = left-by-log run;
+        tape = used-by-log run;
+      }
 
-module _ (choose : Config → Answer InMv) (config : Config) (d : BQ769x0) (c : Chip) where
-  -- Cut runs, one or many in a row, have left this record and chip; and a run on a sound bus, from these, ends as one
-  -- from the originals.
-  pub record Recovers (d′ : BQ769x0) (c′ : Chip) : Type 0 where
-    pub left : Leaves choose config d c d′ c′
-    pub again : (second : Run choose config d′ (uncut c′)) (whole : Run choose config d (uncut c)) → Alike second whole
+  -- what it gave and left is what its program gives and leaves on the chip
+  module _ {r : Reached Wired (Left Values)} (e : onChip (initBy choose d config) w ≡ r) where
+    answer-is : asInit (call .gave .answer) ≡ r .answer .answer
+    answer-is = ap (λ (l : Left Values). l .answer) (as-on-chip run) ∙ ap (λ (x : Reached Wired (Left Values)). x .answer .answer) e
 
-  -- One cut run of a record not yet initialised, which then says initialised only with all six new.
-  pub record Demand3 {cuts : ℕ → Option ℕ} (first : Run choose config d (on c cuts)) : Type 0 where
-    pub by-log : ByItsLog first
-    pub recovers : Recovers (first .gave .device) (leftBy first)
-    pub only-marked : first .gave .device .«init_complete» ≡ true → recovers .left .new ≡ 6
+    device-is : call .gave .device ≡ r .answer .device
+    device-is = ap (λ (l : Left Values). l .device) (as-on-chip run) ∙ ap (λ (x : Reached Wired (Left Values)). x .answer .device) e
 
--- ---- the proofs
-pub by-log : {choose : Config → Answer InMv} {config : Config} {d : BQ769x0} {w : Wired} (run : Run choose config d w)
-    → ByItsLog run
-by-log run =
-    let e = log-read run in
-    record {
-      reads-back = e ∙ ap (λ (o : Option (List Transfer)). some (transfers o)) (sym e);
-      chip = left-by-log run;
+    chip-is : leftBy w call ≡ r .device .chip
+    chip-is = left-by-log run ∙ ap (λ (x : Reached Wired (Left Values)). x .device .chip) e
+
+-- two of which the programs do the same, in step
+alike : {choose : Config → Answer InMv} {config : Config} {d d′ : BQ769x0} {w w′ : Wired} {a b : Call}
+    → Run choose config d w a → Run choose config d′ w′ b
+    → onChip (initBy choose d config) w ≡ onChip (initBy choose d′ config) w′
+    → InStep (initBy choose d config) w (initBy choose d′ config) w′ → Alike w w′ a b
+alike {a = a} {b = b} x y same steps = record {
+  answer = answer-agree (a .gave .answer) (b .gave .answer) (answer-is x same ∙ sym (answer-is y refl));
+  device = device-is x same ∙ sym (device-is y refl);
+  chip = chip-is x same ∙ sym (chip-is y refl);
+  log = is-added x ∙ steps .log ∙ sym (is-added y);
+  tape = ap length (is-used x) ∙ steps .tape ∙ sym (ap length (is-used y));
+}
+
+-- 9, and nothing else
+idle : (choose : Config → Answer InMv) (config : Config) (d : BQ769x0) (w : Wired) → isSound d ≡ false
+    → onChip (initBy choose d config) w ≡ reached (leaving d nine) w
+unfolding initBy soundly onDevice
+idle choose config d w e = rw e refl
+
+-- ---- any number of them
+module _ {choose : Config → Answer InMv} {config : Config} {c : Chip} where
+  matches : {d d′ : BQ769x0} {c′ : Chip} → Runs choose config c d d′ c′ → Matches (d .link) c
+  matches (none-yet m) = m
+  matches (one-more runs cuts call run) = matches runs
+  matches (lost runs e m) = m
+
+  sound-then : {d d′ : BQ769x0} {c′ : Chip} → Runs choose config c d d′ c′ → isSound d ≡ true → isSound d′ ≡ true
+  sound-then (none-yet m) ok = ok
+  sound-then (one-more {d′ = d′} runs cuts call run) ok =
+      ap (λ (r : Ran (Left Values)). isSound (r .answer .device)) (run .promise)
+      ∙ init-keeps choose d′ config (busOf (call .tape) (call .log) (call .at)) (sound-then runs ok)
+  sound-then (lost runs e m) ok = ok
+
+  left-then : {d d′ : BQ769x0} {c′ : Chip} (runs : Runs choose config c d d′ c′) → Leaves choose config d c (newOf runs) d′ c′
+  unfolding newOf
+  left-then (none-yet m) = at-first
+  left-then (one-more {d = d} {d′ = d′} {c′ = c′} runs cuts call run) =
+      subst₂ (Leaves choose config d c (newOf (one-more runs cuts call run))) (sym (device-is run refl)) (sym (chip-is run refl))
+      (stays choose config d c (matches runs) (newOf runs) d′ (on c′ cuts) (left-then runs))
+  left-then (lost runs e m) = begun-again (left-then runs) e
+
+  bytes-then : {d d′ : BQ769x0} {c′ : Chip} → Runs choose config c d d′ c′ → Bytes (c .regs) → Bytes (c′ .regs)
+  bytes-then (none-yet m) h = h
+  bytes-then (one-more {d′ = d′} {c′ = c′} runs cuts call run) h =
+      subst (λ (x : Chip). Bytes (x .regs)) (sym (chip-is run refl)) (regs-of-bytes choose config d′ (on c′ cuts) (bytes-then runs h))
+  bytes-then (lost runs e m) h = bytes-then runs h
+
+  module _ {d d′ : BQ769x0} {c′ : Chip} (runs : Runs choose config c d d′ c′) where
+    in-step-then : isSound d ≡ true → (other : Config)
+        → InStep (initBy choose d′ other) (uncut c′) (initBy choose d other) (uncut c)
+    in-step-then ok other = in-step choose config d c (matches runs) (left-then runs) ok (sound-then runs ok) other
+
+    same-again : AsAtFirst runs config
+    same-again ok second first x y =
+        alike x y (again choose config d c (matches runs) (left-then runs) ok (sound-then runs ok)) (in-step-then ok config)
+
+    other-anew : (other : Config) (plan : Planned) → planOn choose other c ≡ value plan → AsAtFirst runs other
+    other-anew other plan accepted ok second first x y =
+        alike x y (anew choose config d c (matches runs) (left-then runs) ok (sound-then runs ok) other plan accepted) (in-step-then ok other)
+
+    other-refused : isSound d ≡ true → (other : Config) (r : Refusal) → planOn choose other c ≡ refused r
+        → (call : Call) → Run choose other d′ (uncut c′) call → Refuses runs other r call
+    other-refused ok other r e call run =
+        let same = stays-refused choose config d c (matches runs) (left-then runs) ok (sound-then runs ok) other r e in
+        record { answer = answer-is run same; device = device-is run same; chip = chip-is run same }
+
+    pub recovers : Recovers runs
+    recovers = record {
+      left = left-then runs;
+      only-marked = λ new e. all-new new (left-then runs .recorded) e;
+      bytes = bytes-then runs;
+      again = same-again;
+      anew = other-anew;
+      refuses = other-refused;
     }
 
--- for every sound record and its chip, every configuration, and whatever way the steps are chosen (the crate's
--- is stepsFor)
-module _ (choose : Config → Answer InMv) (config : Config) (d : BQ769x0) (c : Chip) (ok : isSound d ≡ true)
-    (m : Matches (d .link) c) where
-  sound-then : {d′ : BQ769x0} {c′ : Chip} → Runs choose config d c d′ c′ → isSound d′ ≡ true
-  sound-then none-yet = ok
-  sound-then (one-more {d′ = d′} runs cuts run) =
-      ap (λ (r : Ran (Left Values)). isSound (r .answer .device)) (run .promise)
-      ∙ init-keeps choose d′ config (busOf (run .tape) (run .log) (run .at)) (sound-then runs)
+-- ---- one call, whatever came before it
+survives : {config : Config} {d : BQ769x0} {c : Chip} {cuts : ℕ → Option ℕ} {call : Call} → Run stepsFor config d (on c cuts) call
+    → Survives config d c cuts call
+survives {config = config} {d = d} {c = c} {cuts = cuts} {call = call} run = record {
+  run = run;
+  by-log = by-log run;
+  unsound = λ e.
+      let nothing = idle stepsFor config d (on c cuts) e in
+      (device-is run nothing, chip-is run nothing);
+  recovers = λ runs. recovers (one-more runs cuts call run);
+}
 
-  left-then : {d′ : BQ769x0} {c′ : Chip} → Runs choose config d c d′ c′ → Leaves choose config d c d′ c′
-  left-then none-yet = at-first
-  left-then (one-more {d′ = d′} {c′ = c′} runs cuts run) =
-      subst₂ (Leaves choose config d c)
-      (sym (ap (λ (l : Left Values). l .device) (as-on-chip run)))
-      (sym (left-by-log run))
-      (stays choose config d c ok m d′ (on c′ cuts) (left-then runs))
-
-  module _ {d′ : BQ769x0} {c′ : Chip} (runs : Runs choose config d c d′ c′) where
-    again-alike : (second : Run choose config d′ (uncut c′)) (whole : Run choose config d (uncut c))
-        → Alike second whole
-    again-alike second whole =
-        let same = again choose config d c ok m (left-then runs) (sound-then runs) in
-        let answers = ap (λ (r : Reached Wired (Left Values)). r .answer) same in
-        let chips = ap (λ (r : Reached Wired (Left Values)). r .device .chip) same in
-        let both = as-on-chip second ∙ answers ∙ sym (as-on-chip whole) in
-        record {
-          answer = answer-agree (second .gave .answer) (whole .gave .answer) (ap (λ (l : Left Values). l .answer) both);
-          device = ap (λ (l : Left Values). l .device) both;
-          chip = left-by-log second ∙ chips ∙ sym (left-by-log whole);
-        }
-
-    pub recovers : Recovers choose config d c d′ c′
-    recovers = record { left = left-then runs; again = again-alike }
-
-  pub demand-3 : d .«init_complete» ≡ false → {cuts : ℕ → Option ℕ} (first : Run choose config d (on c cuts))
-      → Demand3 choose config d c first
-  demand-3 new {cuts} first =
-      let r = recovers (one-more none-yet cuts first) in
-      record { by-log = by-log first; recovers = r; only-marked = λ e. all-new (r .left .recorded) e }
-    where
-      all-new : {n : ℕ} {d′ : BQ769x0} → Recorded choose config d c n d′ → d′ .«init_complete» ≡ true → n ≡ 6
-      all-new as-it-was e = absurd (false≢true (sym new ∙ e))
-      all-new (calibrated q) e = absurd (false≢true (sym new ∙ e))
-      all-new (marked q) e = q
+-- so a call that keeps `init`'s promise
+pub demand-3 : {config : Config} {d : BQ769x0} {call : Call}
+    → ran (leaves (asInit (call .gave .answer)) (call .gave .device)) (call .tape) (call .log′) (call .gave .at)
+    ≡ onTape (initBy stepsFor d config) (busOf (call .tape) (call .log) (call .at))
+    → Demand3 config d call
+demand-3 promise c cuts rest answers room = survives (record { rest = rest; answers = answers; room = room; promise = promise })

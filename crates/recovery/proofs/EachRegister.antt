@@ -22,38 +22,38 @@ use Rattle.recovery.specs.Recovery.{firstNew, regsLeft, six, Leaves}
 use Rattle.recovery.proofs.Left.{six-few}
 
 module _ {choose : Config → Answer InMv} {config : Config} {d : BQ769x0} {c : Chip} (m : Matches (d .link) c)
-    {d′ : BQ769x0} {c′ : Chip} (l : Leaves choose config d c d′ c′) where
+    {n : ℕ} {d′ : BQ769x0} {c′ : Chip} (l : Leaves choose config d c n d′ c′) where
   abbrev six′ : List ℕ
   six′ = six choose config c
 
   -- the new ones, and the registers with these, before 05 is set
   abbrev bytes : List ℕ
-  bytes = take (l .new) six′
+  bytes = take n six′
 
   abbrev part : List ℕ
-  part = firstNew (l .new) six′ (c .regs)
+  part = firstNew n six′ (c .regs)
 
-  size : length bytes ≡ l .new
-  size = length-take-le (l .new) six′ (l .few)
+  size : length bytes ≡ n
+  size = length-take-le n six′ (l .few)
 
   room : 6 + length bytes ≤ length (c .regs)
   room = omega (arith, m .size, six-few choose config c, size, l .few)
 
   -- apart from 05 it makes no difference whether that is set
-  set-or-not : (on : Bool) (i : ℕ) → (i ≡ 5 → ⊥) → getD (regsLeft on (l .new) six′ (c .regs)) i 0 ≡ getD part i 0
+  set-or-not : (on : Bool) (i : ℕ) → (i ≡ 5 → ⊥) → getD (regsLeft on n six′ (c .regs)) i 0 ≡ getD part i 0
   set-or-not true i h = getD-set-other part 5 i _ 0 h
   set-or-not false i h = refl
 
   but-05 : (i : ℕ) → (i ≡ 5 → ⊥) → getD (c′ .regs) i 0 ≡ getD part i 0
   but-05 i h = ap (λ (x : Chip). getD (x .regs) i 0) (l .chip) ∙ set-or-not (l .on) i h
 
-  pub new : (i : ℕ) → i < l .new → getD (c′ .regs) (0x06 + i) 0 ≡ getD (six choose config c) i 0
+  pub new : (i : ℕ) → i < n → getD (c′ .regs) (0x06 + i) 0 ≡ getD (six choose config c) i 0
   new i h =
       but-05 (6 + i) (λ e. omega arith)
       ∙ getD-put (c .regs) 6 bytes room i 0 (omega (arith, size))
-      ∙ getD-take (l .new) six′ i 0 h
+      ∙ getD-take n six′ i 0 h
 
-  pub rest-old : (i : ℕ) → 0x06 + l .new ≤ i → getD (c′ .regs) i 0 ≡ getD (c .regs) i 0
+  pub rest-old : (i : ℕ) → 0x06 + n ≤ i → getD (c′ .regs) i 0 ≡ getD (c .regs) i 0
   rest-old i h = but-05 i (λ e. omega arith) ∙ old-above (c .regs) 6 bytes room i (omega (arith, size))
 
   pub below-old : (i : ℕ) → i < 0x05 → getD (c′ .regs) i 0 ≡ getD (c .regs) i 0
@@ -66,7 +66,7 @@ module _ {choose : Config → Answer InMv} {config : Config} {d : BQ769x0} {c : 
       old : getD part 5 0 ≡ getD (c .regs) 5 0
       old = old-below (c .regs) 6 bytes room 5 (omega arith)
 
-      by : (on : Bool) → getD (regsLeft on (l .new) six′ (c .regs)) 5 0
+      by : (on : Bool) → getD (regsLeft on n six′ (c .regs)) 5 0
           ≡ (if on then bitOr (getD (c .regs) 5 0) 64 else getD (c .regs) 5 0)
       by true =
           getD-set-same part 5 _ 0 (omega (arith, length-put (c .regs) 6 bytes room, room))

@@ -14,7 +14,7 @@ use lib.Dec.{leb}
 use borrow.Author.Tests.{leb-true, leb-false}
 use Rattle.frames.specs.Put.{put}
 use Rattle.frames.proofs.Put.{put-none, length-put, take-before, take-put, put-put, put-over, put-more}
-use Rattle.chip.proofs.FirstPart.{old-above}
+use Rattle.chip.proofs.FirstPart.{old-below, old-above}
 use Rattle.recovery.specs.Recovery.{firstNew, bit6, counted, regsLeft}
 
 -- ---- bits set twice
@@ -119,6 +119,22 @@ module _ (six regs : List ℕ) (size : length regs ≡ 256) (some : length six �
       put-set (firstNew n six regs) (take k six) 6 5 _ (omega arith) (omega (arith, length-new n, length-take k six))
       ∙ ap (λ (u : List ℕ). set u 5 (bitOr (getD (firstNew n six regs) 5 0) bit6)) same
       ∙ ap (λ (j : ℕ). counted (firstNew j six regs)) (sym all)
+
+  -- six bytes over what is left, and then 05
+  pub left-over : (on : Bool) (n : ℕ) (v : List ℕ) → length v ≡ 6
+      → counted (put (regsLeft on n six regs) 6 v) ≡ counted (put regs 6 v)
+  left-over false n v all = ap counted (put-over regs 6 (take n six) (part n) v (omega (arith, length-take n six)))
+  left-over true n v all =
+      let room : 6 + length v ≤ length regs = omega arith in
+      let low = old-below regs 6 (take n six) (part n) 5 (omega arith) in
+      let same = put-over regs 6 (take n six) (part n) v (omega (arith, length-take n six)) in
+      let size = length-put regs 6 v room in
+      let set5 : ℕ → List ℕ = λ x. set (put regs 6 v) 5 x in
+      ap counted
+      (put-set (firstNew n six regs) v 6 5 _ (omega arith) (omega (arith, length-new n))
+      ∙ ap (λ (u : List ℕ). set u 5 (bitOr (getD (firstNew n six regs) 5 0) bit6)) same
+      ∙ ap (λ (x : ℕ). set5 (bitOr x bit6)) (low ∙ sym (old-below regs 6 v room 5 (omega arith))))
+      ∙ counted-again (put regs 6 v) (omega arith)
 
   pub left-counted : (on : Bool) (n : ℕ) → counted (regsLeft on n six regs) ≡ regsLeft true n six regs
   left-counted false n = refl

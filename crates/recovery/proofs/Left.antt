@@ -26,7 +26,7 @@ use Rattle.chip.specs.OnChip.{Matches}
 use Rattle.chip.specs.declared.Chip.{Chip}
 use Rattle.recovery.specs.Recovery.{calibrationOf, planOn, bytesOf, counted, six, chipLeft}
 use Rattle.recovery.specs.Recovery.{Recorded, as-it-was, calibrated, marked, Leaves}
-use Rattle.recovery.proofs.Forms.{length-left, left-above, left-more, left-counted}
+use Rattle.recovery.proofs.Forms.{length-left, left-above, left-more, left-over, left-counted}
 
 -- the record calibrated by the chip, and marked with the new shunt
 abbrev pub setUp : Config → BQ769x0 → Chip → BQ769x0
@@ -67,102 +67,118 @@ module _ (choose : Config → Answer InMv) (config : Config) (c : Chip) where
 
 module _ {choose : Config → Answer InMv} {config : Config} {d : BQ769x0} {c : Chip} where
   -- nothing yet
-  pub at-first : Leaves choose config d c d c
+  pub at-first : Leaves choose config d c 0 d c
   at-first = record {
-    new = 0;
-    on = false;
     few = omega arith;
+    on = false;
     last = λ e. absurd (false≢true e);
     chip = ap (withRegs c) (sym (put-none (c .regs) 6));
     recorded = as-it-was;
   }
 
-  -- ---- the record
-  pub same-link : {n : ℕ} {d′ : BQ769x0} → Recorded choose config d c n d′ → d′ .link ≡ d .link
-  same-link as-it-was = refl
-  same-link (calibrated e) = refl
-  same-link (marked q) = refl
+  module _ {n : ℕ} where
+    -- ---- the record
+    pub same-link : {d′ : BQ769x0} → Recorded choose config d c n d′ → d′ .link ≡ d .link
+    same-link as-it-was = refl
+    same-link (calibrated e) = refl
+    same-link (marked q) = refl
 
-  recalibrates : {n : ℕ} {d′ : BQ769x0} → accepts (choose config) ≡ true → Recorded choose config d c n d′
-      → Recorded choose config d c n (withCalibration d′ (calibrationOf c))
-  recalibrates e as-it-was = calibrated e
-  recalibrates e (calibrated q) = calibrated q
-  recalibrates e (marked q) = marked q
+    recalibrates : {d′ : BQ769x0} → accepts (choose config) ≡ true → Recorded choose config d c n d′
+        → Recorded choose config d c n (withCalibration d′ (calibrationOf c))
+    recalibrates e as-it-was = calibrated e
+    recalibrates e (calibrated q) = calibrated q
+    recalibrates e (marked q) = marked q
 
-  pub marks : {n : ℕ} {d′ : BQ769x0} → Recorded choose config d c n d′ → setUp config d′ c ≡ setUp config d c
-  marks as-it-was = refl
-  marks (calibrated q) = refl
-  marks (marked q) = refl
+    -- what a configuration, this one or another, makes of it
+    pub marks : {d′ : BQ769x0} (other : Config) → Recorded choose config d c n d′ → setUp other d′ c ≡ setUp other d c
+    marks other as-it-was = refl
+    marks other (calibrated q) = refl
+    marks other (marked q) = refl
 
-  more-recorded : {n : ℕ} {d′ : BQ769x0} (k : ℕ) → k ≤ 6 → Recorded choose config d c n d′
-      → Recorded choose config d c (max n k) d′
-  more-recorded {n} k h as-it-was = as-it-was
-  more-recorded {n} k h (calibrated q) = calibrated q
-  more-recorded {n} k h (marked q) = marked {n = max n k} (omega arith)
+    more-recorded : {d′ : BQ769x0} (k : ℕ) → k ≤ 6 → Recorded choose config d c n d′ → Recorded choose config d c (max n k) d′
+    more-recorded k h as-it-was = as-it-was
+    more-recorded k h (calibrated q) = calibrated q
+    more-recorded k h (marked q) = marked (omega arith)
 
-  pub recalibrated : {d′ : BQ769x0} {c′ : Chip} → accepts (choose config) ≡ true → Leaves choose config d c d′ c′
-      → Leaves choose config d c (withCalibration d′ (calibrationOf c)) c′
-  recalibrated e l = record {
-    new = l .new;
-    on = l .on;
-    few = l .few;
-    last = l .last;
-    chip = l .chip;
-    recorded = recalibrates e (l .recorded);
-  }
+    -- initialised since, with all six new
+    pub all-new : {d′ : BQ769x0} → d .«init_complete» ≡ false → Recorded choose config d c n d′ → d′ .«init_complete» ≡ true → n ≡ 6
+    all-new new as-it-was e = absurd (false≢true (sym new ∙ e))
+    all-new new (calibrated q) e = absurd (false≢true (sym new ∙ e))
+    all-new new (marked q) e = q
 
-  -- ---- the chip
-  module _ (m : Matches (d .link) c) {d′ : BQ769x0} {c′ : Chip} (l : Leaves choose config d c d′ c′) where
-    abbrev six′ : List ℕ
-    six′ = six choose config c
+    module _ {d′ : BQ769x0} {c′ : Chip} (l : Leaves choose config d c n d′ c′) where
+      pub recalibrated : accepts (choose config) ≡ true
+          → Leaves choose config d c n (withCalibration d′ (calibrationOf c)) c′
+      recalibrated e = record {
+        few = l .few;
+        on = l .on;
+        last = l .last;
+        chip = l .chip;
+        recorded = recalibrates e (l .recorded);
+      }
 
-    most : length six′ ≤ 6
-    most = six-few choose config c
+      -- another record, on the chip as it was left
+      pub begun-again : (e : BQ769x0) → Leaves choose config e c n e c′
+      begun-again e = record { few = l .few; on = l .on; last = l .last; chip = l .chip; recorded = as-it-was }
 
-    pub matches-left : Matches (d′ .link) c′
-    matches-left =
-        let same = same-link (l .recorded) in
-        record {
-          address = ap (λ (s : Link). s .address) same ∙ m .address ∙ ap (λ (x : Chip). x .address) (sym (l .chip));
-          check = ap (λ (s : Link). s .check) same ∙ m .check ∙ ap (λ (x : Chip). x .check) (sym (l .chip));
-          size =
-              ap (λ (x : Chip). length (x .regs)) (l .chip)
-              ∙ length-left six′ (c .regs) (m .size) most (l .on) (l .new);
+      -- ---- the chip
+      module _ (m : Matches (d .link) c) where
+        abbrev six′ : List ℕ
+        six′ = six choose config c
+
+        most : length six′ ≤ 6
+        most = six-few choose config c
+
+        pub matches-left : Matches (d′ .link) c′
+        matches-left =
+            let same = same-link (l .recorded) in
+            record {
+              address = ap (λ (s : Link). s .address) same ∙ m .address ∙ ap (λ (x : Chip). x .address) (sym (l .chip));
+              check = ap (λ (s : Link). s .check) same ∙ m .check ∙ ap (λ (x : Chip). x .check) (sym (l .chip));
+              size =
+                  ap (λ (x : Chip). length (x .regs)) (l .chip)
+                  ∙ length-left six′ (c .regs) (m .size) most (l .on) n;
+            }
+
+        above : (i : ℕ) → 12 ≤ i → getD (c′ .regs) i 0 ≡ getD (c .regs) i 0
+        above i h =
+            ap (λ (x : Chip). getD (x .regs) i 0) (l .chip)
+            ∙ left-above six′ (c .regs) (m .size) most (l .on) n i h
+
+        pub same-calibration : calibrationOf c′ ≡ calibrationOf c
+        same-calibration =
+            let a = above 0x50 (omega arith) in
+            let b = above 0x51 (omega arith) in
+            let e = above 0x59 (omega arith) in
+            λ i. calibration (a i) (b i) (e i)
+
+        abbrev planBy : Config → AdcTransferFunction → Answer Planned
+        planBy other adc = choose other >>= λ steps. planFor (adc .gain) (adc .offset) other (steps .scd) (steps .ocd)
+
+        pub same-plan : (other : Config) → planOn choose other c′ ≡ planOn choose other c
+        unfolding planOn
+        same-plan other = ap (planBy other) same-calibration
+
+        -- with a first part of the six written over it
+        pub more-left : (k : ℕ) → k ≤ length six′
+            → withRegs c′ (put (c′ .regs) 6 (take k six′)) ≡ chipLeft choose config c (l .on) (max n k)
+        more-left k h =
+            ap (λ (x : Chip). withRegs x (put (x .regs) 6 (take k six′))) (l .chip)
+            ∙ ap (withRegs c) (left-more six′ (c .regs) (m .size) most (l .on) n k (l .last) (l .few) h)
+
+        pub more-new : (k : ℕ) → k ≤ length six′
+            → Leaves choose config d c (max n k) d′ (withRegs c′ (put (c′ .regs) 6 (take k six′)))
+        more-new k h = record {
+          few = omega (arith, l .few);
+          on = l .on;
+          last = λ e. omega (arith, l .last e, l .few, most);
+          chip = more-left k h;
+          recorded = more-recorded k (omega (arith, most)) (l .recorded);
         }
 
-    above : (i : ℕ) → 12 ≤ i → getD (c′ .regs) i 0 ≡ getD (c .regs) i 0
-    above i h =
-        ap (λ (x : Chip). getD (x .regs) i 0) (l .chip)
-        ∙ left-above six′ (c .regs) (m .size) most (l .on) (l .new) i h
-
-    pub same-calibration : calibrationOf c′ ≡ calibrationOf c
-    same-calibration =
-        let a = above 0x50 (omega arith) in
-        let b = above 0x51 (omega arith) in
-        let e = above 0x59 (omega arith) in
-        λ i. calibration (a i) (b i) (e i)
-
-    abbrev planBy : AdcTransferFunction → Answer Planned
-    planBy adc = choose config >>= λ steps. planFor (adc .gain) (adc .offset) config (steps .scd) (steps .ocd)
-
-    pub same-plan : planOn choose config c′ ≡ planOn choose config c
-    unfolding planOn
-    same-plan = ap planBy same-calibration
-
-    -- with a first part of the six written over it
-    pub more-left : (k : ℕ) → k ≤ length six′
-        → withRegs c′ (put (c′ .regs) 6 (take k six′)) ≡ chipLeft choose config c (l .on) (max (l .new) k)
-    more-left k h =
-        ap (λ (x : Chip). withRegs x (put (x .regs) 6 (take k six′))) (l .chip)
-        ∙ ap (withRegs c) (left-more six′ (c .regs) (m .size) most (l .on) (l .new) k (l .last) (l .few) h)
-
-    pub more-new : (k : ℕ) → k ≤ length six′
-        → Leaves choose config d c d′ (withRegs c′ (put (c′ .regs) 6 (take k six′)))
-    more-new k h = record {
-      new = max (l .new) k;
-      on = l .on;
-      few = omega (arith, l .few);
-      last = λ e. omega (arith, l .last e, l .few, most);
-      chip = more-left k h;
-      recorded = more-recorded k (omega (arith, most)) (l .recorded);
-    }
+        -- with any six bytes, and then 05: nothing of what was left is to be seen
+        pub overwritten : (bytes : List ℕ) → length bytes ≡ 6
+            → withRegs c′ (counted (put (c′ .regs) 6 bytes)) ≡ withRegs c (counted (put (c .regs) 6 bytes))
+        overwritten bytes all =
+            ap (λ (x : Chip). withRegs x (counted (put (x .regs) 6 bytes))) (l .chip)
+            ∙ ap (withRegs c) (left-over six′ (c .regs) (m .size) most (l .on) n bytes all)

@@ -1,6 +1,7 @@
 mod Forms
-mod Left
-mod Cut
+pub mod Left
+mod Calibrated
+pub mod Cut
 pub mod Whole
 pub mod Again
 pub mod Asked
@@ -9,4 +10,7 @@ pub mod EachRegister
 pub mod Live
 pub mod OfBytes
 pub mod OnModel
+pub mod SameLog
 pub mod Demand3
+pub mod Feigned
+pub mod Instance

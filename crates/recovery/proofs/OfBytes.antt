@@ -1,5 +1,5 @@
--- A chip whose registers are bytes answers an `init` with a tape of bytes, wherever the wire is cut: so there is such
--- a tape to hand to the code.
+-- A chip whose registers are bytes answers an `init` with a tape of bytes, wherever the wire is cut: so there is such a tape to hand to the
+-- code. And its registers then are bytes.
 -- Assumes nothing.
 use mathlib.Core.Bool.{not}
 use native.Mathlib.Omega.{arith}
@@ -18,9 +18,9 @@ use Rattle.procedure.specs.Calibrate.{calibrate}
 use Rattle.procedure.specs.Init.{onward, onwardBy, startCounter, protect, initBy}
 use Rattle.bq769x0.specs.declared.BQ769x0.{BQ769x0}
 use Rattle.chip.specs.Devices.{tapeOf}
-use Rattle.chip.specs.OnChip.{Wired, onWire}
+use Rattle.chip.specs.OnChip.{Wired, onWire, onChip}
 use Rattle.chip.proofs.RegisterBytes.{getD-byte}
-use Rattle.chip.proofs.TapeBytes.{Sending, ends, tape-bytes}
+use Rattle.chip.proofs.TapeBytes.{Sending, ends, tape-bytes, regs-bytes}
 use Rattle.chip.proofs.TapeBytes.{sending-bind, sending-call, sending-pure, sending-if, sending-read, sending-write}
 
 -- ---- `init` sends bytes where it is answered bytes
@@ -65,3 +65,6 @@ module _ (choose : Config → Answer InMv) (config : Config) (d : BQ769x0) where
 
   pub tape-of-bytes : (w : Wired) → Bytes (w .chip .regs) → Bytes (tapeOf onWire (initBy choose d config) w)
   tape-of-bytes w h = tape-bytes init-sending w h
+
+  pub regs-of-bytes : (w : Wired) → Bytes (w .chip .regs) → Bytes (onChip (initBy choose d config) w .device .chip .regs)
+  regs-of-bytes w h = regs-bytes init-sending w h

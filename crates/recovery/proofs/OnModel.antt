@@ -16,28 +16,28 @@ use Rattle.chip.specs.Devices.{Reached}
 use Rattle.chip.specs.OnChip.{Matches, Wired, uncut, onChip}
 use Rattle.chip.specs.declared.Chip.{Chip}
 use Rattle.recovery.specs.Recovery.{calibrationOf, planOn, counted, firstNew}
-use Rattle.recovery.specs.Runs.{Run, leftBy}
+use Rattle.recovery.specs.Runs.{Call, Run, leftBy}
 use Rattle.recovery.proofs.Whole.{ends, whole}
 use Rattle.recovery.proofs.ByLog.{as-on-chip, left-by-log}
 
 module _ {choose : Config → Answer InMv} {config : Config} {d : BQ769x0} {c : Chip}
     (ok : isSound d ≡ true) (m : Matches (d .link) c)
-    (run : Run choose config d (uncut c)) (plan : Planned) (accepted : planOn choose config c ≡ value plan) where
+    {call : Call} (run : Run choose config d (uncut c) call) (plan : Planned) (accepted : planOn choose config c ≡ value plan) where
   set-up : (steps : InMv) × (onChip (initBy choose d config) (uncut c) ≡ ends config d c (value steps) (value plan))
   unfolding planOn
   set-up =
       let steps = first (choose config) _ accepted in
       (steps .0, whole choose config d c ok m ∙ ap₂ (ends config d c) (steps .1 .0) accepted)
 
-  pub answers : asInit (run .gave .answer) ≡ value (plan .values)
+  pub answers : asInit (call .gave .answer) ≡ value (plan .values)
   answers =
       ap (λ (l : Left Values). l .answer) (as-on-chip run)
       ∙ ap (λ (r : Reached Wired (Left Values)). r .answer .answer) (set-up .1)
 
-  pub records : run .gave .device ≡ withShunt (withCalibration d (calibrationOf c)) (config .shunt)
+  pub records : call .gave .device ≡ withShunt (withCalibration d (calibrationOf c)) (config .shunt)
   records =
       ap (λ (l : Left Values). l .device) (as-on-chip run)
       ∙ ap (λ (r : Reached Wired (Left Values)). r .answer .device) (set-up .1)
 
-  pub sets : leftBy run ≡ withRegs c (counted (firstNew 6 (plan .regs) (c .regs)))
+  pub sets : leftBy (uncut c) call ≡ withRegs c (counted (firstNew 6 (plan .regs) (c .regs)))
   sets = left-by-log run ∙ ap (λ (r : Reached Wired (Left Values)). r .device .chip) (set-up .1)

@@ -31,6 +31,7 @@ use Rattle.chip.specs.declared.Chip.{Chip}
 use Rattle.chip.proofs.Devices.{device-bind, went-on, went-off}
 use Rattle.chip.proofs.Uncut.{read-uncut, write-uncut}
 use Rattle.recovery.specs.Recovery.{calibrationOf, planOn, counted, regsLeft}
+use Rattle.recovery.proofs.Calibrated.{calibrate-whole}
 use Rattle.recovery.proofs.Forms.{put-one}
 use Rattle.recovery.proofs.Left.{setUp, planned}
 
@@ -70,13 +71,6 @@ module _ (link : Link) (ok : sound link ≡ true) (c : Chip) (m : Matches link c
 -- ---- the stages
 module _ (d : BQ769x0) (ok : sound (d .link) ≡ true) (two : 2 ≤ 2 * d .link .x) (c : Chip)
     (m : Matches (d .link) c) where
-  calibrate-uncut : onChip (calibrate d) (uncut c)
-      ≡ reached (leaves (value tt) (withCalibration d (calibrationOf c))) (uncut c)
-  unfolding calibrate onDevice held
-  calibrate-uncut =
-      read-on (d .link) ok c m _ _ 0x50 2 (omega arith) (omega arith) two
-      ∙ read-on (d .link) ok c m _ _ 0x59 1 (omega arith) (omega arith) (omega arith)
-
   start-counter-uncut : (values : Values) → onChip (startCounter d values) (uncut c)
       ≡ reached (leaves (value values) d) (uncut (withRegs c (counted (c .regs))))
   unfolding startCounter onDevice held
@@ -118,7 +112,7 @@ module _ (choose : Config → Answer InMv) (config : Config) (d : BQ769x0) (c : 
       (pure-on (choose config) _ _ (uncut c) steps e
       ∙ device-bind onWire (calibrate d) (onward (protect config steps)) (uncut c)
       ∙ ap (λ (r : Reached Wired (Left Done)). onChip (onward (protect config steps) (r .answer)) (r .device))
-      (calibrate-uncut d (link-sound d ok) (omega (arith, some-inputs d ok)) c m)
+      (calibrate-whole d (link-sound d ok) (omega (arith, some-inputs d ok)) (uncut c) m refl refl)
       ∙ protect-uncut steps (planOn choose config c) (sym (planned choose config c steps e _ refl)))
 
   pub whole : onChip (initBy choose d config) (uncut c) ≡ ends config d c (choose config) (planOn choose config c)

@@ -1,2 +1,3 @@
 pub mod Recovery
 pub mod Runs
+pub mod Demand3

@@ -1,8 +1,9 @@
 -- What an `init` that was cut leaves on the chip and in the record.
 -- Assumes nothing.
 use mathlib.Core.Path.{_≡_}
-use mathlib.Core.Bool.{Bool, true}
+use mathlib.Core.Bool.{Bool, true, false, _&&_}
 use mathlib.Core.List.{List, []}
+use mathlib.Core.Option.{Option, none, some}
 use Prim.Native.Nat.{ℕ, _≤_}
 use lib.ListN.{length, take, getD, set}
 use lib.Bits.{bitOr}
@@ -15,9 +16,9 @@ use Rattle.plan.specs.Steps.{InMv}
 use Rattle.plan.specs.Plan.{Planned, planFor}
 use Rattle.plan.specs.declared.Config.{Config}
 use Rattle.laws.specs.Choice.{if_then_else_}
-use Rattle.bq769x0.specs.Record.{accepts, withCalibration, withShunt}
+use Rattle.bq769x0.specs.Record.{accepts, isSound, withCalibration, withShunt}
 use Rattle.bq769x0.specs.declared.BQ769x0.{BQ769x0}
-use Rattle.chip.specs.Chip.{withRegs}
+use Rattle.chip.specs.Chip.{newBytes, withRegs}
 use Rattle.chip.specs.declared.Chip.{Chip}
 
 -- the calibration that the chip holds
@@ -58,22 +59,31 @@ module _ (choose : Config → Answer InMv) (config : Config) (c : Chip) where
   abbrev pub chipLeft : Bool → ℕ → Chip
   chipLeft on n = withRegs c (regsLeft on n six (c .regs))
 
-module _ (choose : Config → Answer InMv) (config : Config) (d : BQ769x0) (c : Chip) where
+-- how many of the six an `init` of this record brings, on a wire that is cut so: none where the record is not sound or a read of the
+-- calibration is cut, and else as many as were complete when their write was
+abbrev pub isWhole : Option ℕ → Bool
+isWhole none = true
+isWhole (some j) = false
+
+abbrev pub brought : BQ769x0 → (ℕ → Option ℕ) → List ℕ → ℕ
+brought d cuts six =
+    if isSound d && (isWhole (cuts 0) && isWhole (cuts 1)) then newBytes (d .link .check) (cuts 2) six else 0
+
+module _ (choose : Config → Answer InMv) (config : Config) (d : BQ769x0) (c : Chip) (new : ℕ) where
   -- the record as it was; or with the chip's calibration, if the steps were chosen; or with the mark and the new shunt
   -- too, all six being new
-  pub data Recorded : ℕ → BQ769x0 → Type 0 where
-    as-it-was : {n : ℕ} → Recorded n d
-    calibrated : {n : ℕ} → accepts (choose config) ≡ true → Recorded n (withCalibration d (calibrationOf c))
-    marked : {n : ℕ} → n ≡ 6 → Recorded n (withShunt (withCalibration d (calibrationOf c)) (config .shunt))
+  pub data Recorded : BQ769x0 → Type 0 where
+    as-it-was : Recorded d
+    calibrated : accepts (choose config) ≡ true → Recorded (withCalibration d (calibrationOf c))
+    marked : new ≡ 6 → Recorded (withShunt (withCalibration d (calibrationOf c)) (config .shunt))
 
-  -- the record and the chip that are left
+  -- the record and the chip that are left, so many of the six being new
   pub record Leaves (d′ : BQ769x0) (c′ : Chip) : Type 0 where
-    -- so many of the six are new, which is none where the configuration is refused
-    pub new : ℕ
+    -- which is none where the configuration is refused
     pub few : new ≤ length (six choose config c)
     -- 05 is its old byte, or set once all six are new
     pub on : Bool
     pub last : on ≡ true → new ≡ 6
     -- no other register changes
     pub chip : c′ ≡ chipLeft choose config c on new
-    pub recorded : Recorded new d′
+    pub recorded : Recorded d′

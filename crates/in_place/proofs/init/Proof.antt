@@ -52,6 +52,7 @@ use Rattle.bq769x0.specs.Record.{leaves}
 use Rattle.procedure.specs.Init.{initBy}
 use Rattle.bq769x0.specs.declared.BQ769x0.{BQ769x0}
 use Rattle.setup.specs.declared.left.Init.{Init}
+use Rattle.recovery.proofs.Demand3.{demand-3}
 use Rattle.bq769x0.proofs.BQ769x0 as B
 use Rattle.setup.proofs.left.Init as O
 use Rattle.setup.proofs.left.Init.Laws as O′
@@ -136,7 +137,7 @@ module _ {M : Type 1} (𝓤 : URA M) (H : Heap 𝓤) (A : Atoms 𝓤) (W : Given
         qed W (Ends r zs) ∵
         suffices ! _ (ends-at 𝓤 H A f.ended (stayed f.ended ways) (f.clauses 𝓤 H A at-mem run) W outside u (rest r)
         (r .device, (tt, (tt, (zs, (tt, tt))))) (tt, (tt, (tt, (l, (tt, tt)))))) $
-        says ! e $ move ! (2 ∷ 3 ∷ []) $ join ! $ frame ! $ move ! (2 ∷ 3 ∷ []) $ last-three ! cursor pv pp $
+        says ! (e, demand-3 e) $ move ! (2 ∷ 3 ∷ []) $ join ! $ frame ! $ move ! (2 ∷ 3 ∷ []) $ last-three ! cursor pv pp $
         owned ! K.the-row (Is K.the-row) (LL.makes K.the-type K′.the-plain 𝓤 H A) config _ pk $ fjoin ! $
         move ! (1 ∷ 2 ∷ []) $ handed-back ! κ b o γ (r .device) R.the-type R′.the-plain (rest r) u is
 
