@@ -1,8 +1,10 @@
 // The calls of a bench job: each one's transfers and its answer printed, and the record last of all.
+use crate::making::Told;
 use crate::state::State;
 use calls::FieldAnswer;
 
 mod making;
+pub mod refusing;
 mod registers;
 mod showing;
 pub mod state;
@@ -20,6 +22,7 @@ pub fn print(input: &[u8], tape_at: usize, state: State, log: &mut [u8]) {
 pub fn in_turn(input: &[u8], tape: &[u8], state: State, log: &mut [u8]) -> State {
     let mut state = state;
     let mut place = calls::CALLS_AT;
+    let mut number = 0;
     while place < input.len() {
         let found = calls::field_at(input, place);
         let FieldAnswer::Found(field) = found else {
@@ -32,13 +35,14 @@ pub fn in_turn(input: &[u8], tape: &[u8], state: State, log: &mut [u8]) -> State
             return state;
         }
         let end = start + len;
-        state = call(tag, &input[start..end], state, tape, log);
+        number += 1;
+        state = call(number, tag, &input[start..end], state, tape, log);
         place = end;
     }
     state
 }
 
-fn call(tag: u8, value: &[u8], state: State, tape: &[u8], log: &mut [u8]) -> State {
+fn call(number: usize, tag: u8, value: &[u8], state: State, tape: &[u8], log: &mut [u8]) -> State {
     let device = state.device;
     let at = state.at;
     let made = making::make(tag, value, device, tape, log, at);
@@ -49,13 +53,11 @@ fn call(tag: u8, value: &[u8], state: State, tape: &[u8], log: &mut [u8]) -> Sta
     let prints = state.prints;
     if prints.answers() {
         lines::transfers(log, at, next);
-        showing::show(
-            told,
-            lent,
-            value,
-            device.cell_count as usize,
-            prints.lists(),
-        );
+        match told {
+            Told::Refused(e) => refusing::call(e, number, tag, value, state, tape, next),
+            _ => showing::show(told, lent, device.cell_count as usize),
+        }
+        showing::show_lent(tag, value, lent, prints.lists());
     }
     state.after(device, next)
 }

@@ -7,36 +7,39 @@ use bus::Cursor;
 use bus::link::RawAnswer;
 use cells::crate_list;
 use cells::wired;
-use commands::control::SourceAnswer;
-use commands::register::ByteAnswer;
-use commands::status::StatAnswer;
-use commands::switches::FlagAnswer;
+use commands::control::TemperatureSource;
 use job::ConfigAnswer;
+use measuring::degrees::Temperature;
 use measuring::pack;
 use measuring::pack::VoltageAnswer;
 use measuring::temperature;
 use measuring::temperature::TemperatureAnswer;
+use plan::CalculatedValues;
 use plan::Config;
 use plan::InitAnswer;
+use refusals::Error;
+use units::MilliAmperes;
+use units::MilliVolts;
+use units::flags::Stat;
 use wiring::questions;
 use wiring::questions::CellAnswer;
 
 // What a call answered; NotMade where no call has the tag, or its value does not fit.
 pub(crate) enum Told {
     NotMade,
-    Init(InitAnswer),
-    Cells(RawAnswer),
-    Current(CurrentAnswer),
-    Voltage(VoltageAnswer),
-    Temperature(TemperatureAnswer),
-    Balancing(ByteAnswer),
-    Status(StatAnswer),
-    Charging(FlagAnswer),
-    Source(SourceAnswer),
-    Data(RawAnswer),
-    Done(RawAnswer),
-    Wired(RawAnswer),
-    CellOn(CellAnswer),
+    Refused(Error),
+    Done,
+    Init(CalculatedValues),
+    Cells,
+    Wired,
+    Current(MilliAmperes),
+    Voltage(MilliVolts),
+    Temperature(Temperature),
+    Balancing(u8),
+    Status(Stat),
+    Charging(bool),
+    Source(TemperatureSource),
+    CellOn(u8),
 }
 
 // What is lent to a call, as far as its value says.
@@ -62,6 +65,14 @@ impl Lent {
             list: [4_294_967_295u32; 255],
             data: [0xAAu8; 512],
         }
+    }
+}
+
+// Of a call that answers no more than that it is done.
+pub(crate) fn raw(answer: RawAnswer, done: Told) -> Told {
+    match answer {
+        RawAnswer::Done => done,
+        RawAnswer::Refused(e) => Told::Refused(e),
     }
 }
 
@@ -119,7 +130,11 @@ fn init_by(config: Config, device: BQ769x0, tape: &[u8], log: &mut [u8], at: Cur
     let answer = done.answer;
     let device = done.device;
     let at = done.at;
-    answered(Told::Init(answer), device, at)
+    let told = match answer {
+        InitAnswer::Ready(values) => Told::Init(values),
+        InitAnswer::Refused(e) => Told::Refused(e),
+    };
+    answered(told, device, at)
 }
 
 // The lent list is as long as the value says.
@@ -136,7 +151,7 @@ fn cells(value: &[u8], device: BQ769x0, tape: &[u8], log: &mut [u8], at: Cursor)
     let mut lent = Lent::fresh();
     lent.list = list;
     Made {
-        told: Told::Cells(answer),
+        told: raw(answer, Told::Cells),
         device,
         at,
         lent,
@@ -160,7 +175,7 @@ fn wired(value: &[u8], device: BQ769x0, tape: &[u8], log: &mut [u8], at: Cursor)
     lent.inputs = inputs;
     lent.list = list;
     Made {
-        told: Told::Wired(answer),
+        told: raw(answer, Told::Wired),
         device,
         at,
         lent,
@@ -171,21 +186,33 @@ fn current(device: BQ769x0, tape: &[u8], log: &mut [u8], at: Cursor) -> Made {
     let read = pack::current(device, tape, log, at);
     let answer = read.answer;
     let at = read.at;
-    answered(Told::Current(answer), device, at)
+    let told = match answer {
+        CurrentAnswer::Flows(current) => Told::Current(current),
+        CurrentAnswer::Refused(e) => Told::Refused(e),
+    };
+    answered(told, device, at)
 }
 
 fn voltage(device: BQ769x0, tape: &[u8], log: &mut [u8], at: Cursor) -> Made {
     let read = pack::voltage(device, tape, log, at);
     let answer = read.answer;
     let at = read.at;
-    answered(Told::Voltage(answer), device, at)
+    let told = match answer {
+        VoltageAnswer::Volts(voltage) => Told::Voltage(voltage),
+        VoltageAnswer::Refused(e) => Told::Refused(e),
+    };
+    answered(told, device, at)
 }
 
 fn temperature(device: BQ769x0, tape: &[u8], log: &mut [u8], at: Cursor) -> Made {
     let read = temperature::temperature(device, tape, log, at);
     let answer = read.answer;
     let at = read.at;
-    answered(Told::Temperature(answer), device, at)
+    let told = match answer {
+        TemperatureAnswer::Degrees(read) => Told::Temperature(read),
+        TemperatureAnswer::Refused(e) => Told::Refused(e),
+    };
+    answered(told, device, at)
 }
 
 // Asked of the value's three numbers, not of the record.
@@ -194,5 +221,9 @@ fn cell_on(value: &[u8], device: BQ769x0, at: Cursor) -> Made {
         return not_made(device, at);
     }
     let answer = questions::cell_on(value[0], value[1], value[2]);
-    answered(Told::CellOn(answer), device, at)
+    let told = match answer {
+        CellAnswer::Cell(cell) => Told::CellOn(cell),
+        CellAnswer::Refused(e) => Told::Refused(e),
+    };
+    answered(told, device, at)
 }

@@ -1,4 +1,5 @@
 // The register commands, and registers read and written as they are.
+use crate::making;
 use crate::making::Lent;
 use crate::making::Made;
 use crate::making::Told;
@@ -11,12 +12,16 @@ use bus::link::RawAnswer;
 use commands::balancing;
 use commands::by_record;
 use commands::control;
+use commands::control::SourceAnswer;
 use commands::control::TemperatureSource;
 use commands::counter;
 use commands::counter::CoulombCounterMode;
+use commands::register::ByteAnswer;
 use commands::ship;
 use commands::status;
+use commands::status::StatAnswer;
 use commands::switches;
+use commands::switches::FlagAnswer;
 use refusals::Error;
 use units::flags::SysStat;
 
@@ -43,28 +48,44 @@ fn balancing_state(device: BQ769x0, tape: &[u8], log: &mut [u8], at: Cursor) -> 
     let read = balancing::balancing_state(device, tape, log, at);
     let answer = read.answer;
     let at = read.at;
-    answered(Told::Balancing(answer), device, at)
+    let told = match answer {
+        ByteAnswer::Byte(cells) => Told::Balancing(cells),
+        ByteAnswer::Refused(e) => Told::Refused(e),
+    };
+    answered(told, device, at)
 }
 
 fn sys_stat(device: BQ769x0, tape: &[u8], log: &mut [u8], at: Cursor) -> Made {
     let read = status::sys_stat(device, tape, log, at);
     let answer = read.answer;
     let at = read.at;
-    answered(Told::Status(answer), device, at)
+    let told = match answer {
+        StatAnswer::Status(stat) => Told::Status(stat),
+        StatAnswer::Refused(e) => Told::Refused(e),
+    };
+    answered(told, device, at)
 }
 
 fn is_charge_enabled(device: BQ769x0, tape: &[u8], log: &mut [u8], at: Cursor) -> Made {
     let read = switches::is_charge_enabled(device, tape, log, at);
     let answer = read.answer;
     let at = read.at;
-    answered(Told::Charging(answer), device, at)
+    let told = match answer {
+        FlagAnswer::Flag(on) => Told::Charging(on),
+        FlagAnswer::Refused(e) => Told::Refused(e),
+    };
+    answered(told, device, at)
 }
 
 fn temperature_source(device: BQ769x0, tape: &[u8], log: &mut [u8], at: Cursor) -> Made {
     let read = control::temperature_source(device, tape, log, at);
     let answer = read.answer;
     let at = read.at;
-    answered(Told::Source(answer), device, at)
+    let told = match answer {
+        SourceAnswer::Source(source) => Told::Source(source),
+        SourceAnswer::Refused(e) => Told::Refused(e),
+    };
+    answered(told, device, at)
 }
 
 fn ship_enter(device: BQ769x0, tape: &[u8], log: &mut [u8], at: Cursor) -> Made {
@@ -74,7 +95,7 @@ fn ship_enter(device: BQ769x0, tape: &[u8], log: &mut [u8], at: Cursor) -> Made 
 fn done(raw: Raw, device: BQ769x0) -> Made {
     let answer = raw.answer;
     let at = raw.at;
-    answered(Told::Done(answer), device, at)
+    answered(making::raw(answer, Told::Done), device, at)
 }
 
 // The buffer is AA throughout, and as long as the value says.
@@ -93,7 +114,7 @@ fn read_raw(value: &[u8], device: BQ769x0, tape: &[u8], log: &mut [u8], at: Curs
     let mut lent = Lent::fresh();
     lent.data = data;
     Made {
-        told: Told::Data(answer),
+        told: making::raw(answer, Told::Done),
         device,
         at,
         lent,

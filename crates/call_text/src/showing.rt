@@ -2,59 +2,64 @@
 use crate::making::Lent;
 use crate::making::Told;
 use crate::making::size;
-use adc::counter::CurrentAnswer;
-use bus::link::RawAnswer;
-use commands::control::SourceAnswer;
 use commands::control::TemperatureSource;
-use commands::register::ByteAnswer;
-use commands::status::StatAnswer;
-use commands::switches::FlagAnswer;
 use measuring::degrees::Temperature;
-use measuring::pack::VoltageAnswer;
-use measuring::temperature::TemperatureAnswer;
-use wiring::questions::CellAnswer;
 
-// Of the lists the first `count`, and where asked the whole of what was lent.
-pub(crate) fn show(told: Told, lent: Lent, value: &[u8], count: usize, whole: bool) {
+// Of the lists the first `count`. A refusal has its line elsewhere.
+pub(crate) fn show(told: Told, lent: Lent, count: usize) {
     match told {
-        Told::NotMade => {}
-        Told::Init(answer) => lines::init(answer),
-        Told::Cells(answer) => cells(answer, lent, value, count, whole),
-        Told::Current(answer) => current(answer),
-        Told::Voltage(answer) => voltage(answer),
-        Told::Temperature(answer) => temperature(answer),
-        Told::Balancing(answer) => balancing(answer),
-        Told::Status(answer) => status(answer),
-        Told::Charging(answer) => charging(answer),
-        Told::Source(answer) => source(answer),
-        Told::Data(answer) => read_data(answer, lent, value),
-        Told::Done(answer) => done(answer),
-        Told::Wired(answer) => wired(answer, lent, value, count, whole),
-        Told::CellOn(answer) => cell_on(answer),
+        Told::NotMade | Told::Refused(_) => {}
+        Told::Done => text::words(b"done\n"),
+        Told::Init(values) => lines::init(values),
+        Told::Cells => cells(lent, count),
+        Told::Wired => wired(lent, count),
+        Told::Current(current) => lines::signed_number(b"current", current.0),
+        Told::Voltage(voltage) => lines::number(b"voltage", voltage.0 as u64),
+        Told::Temperature(read) => degrees(read),
+        Told::Balancing(cells) => lines::number(b"balancing", cells as u64),
+        Told::Status(stat) => lines::number(b"status", stat.bits as u64),
+        Told::Charging(on) => lines::number(b"charging", if on { 1 } else { 0 }),
+        Told::Source(source) => source_line(source),
+        Told::CellOn(cell) => lines::number(b"cellon", cell as u64),
     }
 }
 
-fn cells(answer: RawAnswer, lent: Lent, value: &[u8], count: usize, whole: bool) {
+fn cells(lent: Lent, count: usize) {
     let list = lent.list;
-    match answer {
-        RawAnswer::Done => lines::numbers(b"cells", &list, count),
-        RawAnswer::Refused(e) => lines::refused(e),
-    }
-    if whole {
-        lines::numbers(b"list", &list, room(value, 0));
-    }
+    lines::numbers(b"cells", &list, count);
 }
 
-fn wired(answer: RawAnswer, lent: Lent, value: &[u8], count: usize, whole: bool) {
+fn wired(lent: Lent, count: usize) {
     let inputs = lent.inputs;
     let list = lent.list;
-    match answer {
-        RawAnswer::Done => lines::pairs(b"wired", &inputs, &list, count),
-        RawAnswer::Refused(e) => lines::refused(e),
+    lines::pairs(b"wired", &inputs, &list, count);
+}
+
+fn degrees(read: Temperature) {
+    match read {
+        Temperature::InternalDie(t) => lines::signed_number(b"temperature die", t.0),
+        Temperature::ExternalThermistor(t) => lines::signed_number(b"temperature thermistor", t.0),
     }
-    if whole {
-        lines::small_numbers(b"inputs", &inputs, room(value, 0));
-        lines::numbers(b"list", &list, room(value, 1));
+}
+
+fn source_line(source: TemperatureSource) {
+    match source {
+        TemperatureSource::InternalDie => text::words(b"source die\n"),
+        TemperatureSource::ExternalThermistor => text::words(b"source thermistor\n"),
+    }
+}
+
+// What was lent, after a refusal too: the data, and where asked the lists whole.
+pub(crate) fn show_lent(tag: u8, value: &[u8], lent: Lent, lists: bool) {
+    if tag == 0x32 {
+        data(lent, value);
+    }
+    if lists & (tag == 0x22) {
+        list(lent, value, 0);
+    }
+    if lists & (tag == 0x34) {
+        inputs(lent, value);
+        list(lent, value, 1);
     }
 }
 
@@ -66,87 +71,19 @@ fn room(value: &[u8], i: usize) -> usize {
     size(value[i])
 }
 
-fn read_data(answer: RawAnswer, lent: Lent, value: &[u8]) {
+fn list(lent: Lent, value: &[u8], i: usize) {
+    let list = lent.list;
+    lines::numbers(b"list", &list, room(value, i));
+}
+
+fn inputs(lent: Lent, value: &[u8]) {
+    let inputs = lent.inputs;
+    lines::small_numbers(b"inputs", &inputs, room(value, 0));
+}
+
+fn data(lent: Lent, value: &[u8]) {
     let data = lent.data;
-    done(answer);
     if value.len() == 3 {
         lines::bytes(b"data", &data, numbers::be_u16(value[1], value[2]) as usize);
-    }
-}
-
-fn done(answer: RawAnswer) {
-    match answer {
-        RawAnswer::Done => text::words(b"done\n"),
-        RawAnswer::Refused(e) => lines::refused(e),
-    }
-}
-
-fn current(answer: CurrentAnswer) {
-    match answer {
-        CurrentAnswer::Flows(current) => lines::signed_number(b"current", current.0),
-        CurrentAnswer::Refused(e) => lines::refused(e),
-    }
-}
-
-fn voltage(answer: VoltageAnswer) {
-    match answer {
-        VoltageAnswer::Volts(voltage) => lines::number(b"voltage", voltage.0 as u64),
-        VoltageAnswer::Refused(e) => lines::refused(e),
-    }
-}
-
-fn temperature(answer: TemperatureAnswer) {
-    match answer {
-        TemperatureAnswer::Degrees(read) => degrees(read),
-        TemperatureAnswer::Refused(e) => lines::refused(e),
-    }
-}
-
-fn degrees(read: Temperature) {
-    match read {
-        Temperature::InternalDie(t) => lines::signed_number(b"temperature die", t.0),
-        Temperature::ExternalThermistor(t) => lines::signed_number(b"temperature thermistor", t.0),
-    }
-}
-
-fn balancing(answer: ByteAnswer) {
-    match answer {
-        ByteAnswer::Byte(cells) => lines::number(b"balancing", cells as u64),
-        ByteAnswer::Refused(e) => lines::refused(e),
-    }
-}
-
-fn status(answer: StatAnswer) {
-    match answer {
-        StatAnswer::Status(stat) => lines::number(b"status", stat.bits as u64),
-        StatAnswer::Refused(e) => lines::refused(e),
-    }
-}
-
-fn charging(answer: FlagAnswer) {
-    match answer {
-        FlagAnswer::Flag(on) => lines::number(b"charging", if on { 1 } else { 0 }),
-        FlagAnswer::Refused(e) => lines::refused(e),
-    }
-}
-
-fn source(answer: SourceAnswer) {
-    match answer {
-        SourceAnswer::Source(source) => source_line(source),
-        SourceAnswer::Refused(e) => lines::refused(e),
-    }
-}
-
-fn source_line(source: TemperatureSource) {
-    match source {
-        TemperatureSource::InternalDie => text::words(b"source die\n"),
-        TemperatureSource::ExternalThermistor => text::words(b"source thermistor\n"),
-    }
-}
-
-fn cell_on(answer: CellAnswer) {
-    match answer {
-        CellAnswer::Cell(cell) => lines::number(b"cellon", cell as u64),
-        CellAnswer::Refused(e) => lines::refused(e),
     }
 }

@@ -2,6 +2,7 @@
 use bq769x0::BQ769x0;
 use bq769x0::record::NewAnswer;
 use bus::Cursor;
+use call_text::refusing;
 use call_text::state::Prints;
 use call_text::state::State;
 use calls::HeadAnswer;
@@ -18,7 +19,7 @@ fn print(input: &[u8]) {
     let head = calls::head(input);
     match head {
         HeadAnswer::Wanted(heading) => make(input, heading),
-        HeadAnswer::Refused(e) => lines::refused(e),
+        HeadAnswer::Refused(_) => refusing::job(input, 0, calls::CALLS_AT),
     }
 }
 
@@ -30,7 +31,7 @@ fn make(input: &[u8], heading: Heading) {
     let device = made.device;
     match answer {
         NewAnswer::Made => run(input, tape_at, device),
-        NewAnswer::Refused(e) => lines::refused(e),
+        NewAnswer::Refused(e) => lines::refused::in_job(e, input, 0, 0x20),
     }
 }
 

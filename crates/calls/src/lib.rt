@@ -116,7 +116,8 @@ fn fits(shape: Shape, value: &[u8]) -> bool
     }
 }
 
-fn is_lawful(tag: u8, value: &[u8]) -> bool
+// Whether a field of this tag and value is a call.
+pub fn is_lawful(tag: u8, value: &[u8]) -> bool
     ensures { λ r. ⌜ r ≡ lawful tag (now (value .entry)) ⌝ }
 {
     fits(shape_of(tag), value)

@@ -3,14 +3,13 @@
 use bq769x0::BQ769x0;
 use bq769x0::record::NewAnswer;
 use bus::Cursor;
+use call_text::refusing;
 use call_text::state::Prints;
 use call_text::state::State;
 use calls::HeadAnswer;
-use calls::Heading;
 use chip::Chip;
 use job::Device;
 use job::DeviceAnswer;
-use refusals::Error;
 
 mod bench;
 mod front;
@@ -29,19 +28,28 @@ fn print(input: &mut [u8]) {
     let parsed = job::parse_device(input);
     match parsed {
         DeviceAnswer::Wanted(device) => with_device(input, device),
-        DeviceAnswer::Refused(e) => lines::refused(e),
+        DeviceAnswer::Refused(e) => lines::refused::in_job(e, input, 0, 0x20),
     }
 }
 
 fn with_device(input: &mut [u8], device: Device) {
     let mut cuts = [0usize; bench::MOST];
     let front = front::read(input, Chip::make(device.address, device.check), &mut cuts);
-    if !front.fits {
-        lines::refused(Error::BadTape);
-        return;
-    }
     let chip = front.chip;
     let calls_at = front.calls_at;
+    if !front.fits {
+        refusing::field_at(input, calls_at);
+        return;
+    }
+    if calls_at < calls::CALLS_AT {
+        return;
+    }
+    front::put_device(device, input, calls_at - calls::CALLS_AT);
+    with_calls(input, calls_at, chip, &cuts);
+}
+
+// Field 20 and the calls, and nothing behind them.
+fn with_calls(input: &[u8], calls_at: usize, chip: Chip, cuts: &[usize]) {
     if calls_at < calls::CALLS_AT {
         return;
     }
@@ -49,31 +57,28 @@ fn with_device(input: &mut [u8], device: Device) {
         return;
     }
     let job_at = calls_at - calls::CALLS_AT;
-    front::put_device(device, input, job_at);
-    with_calls(&input[job_at..], chip, &cuts);
-}
-
-// Field 20 and the calls, and nothing behind them.
-fn with_calls(job: &[u8], chip: Chip, cuts: &[usize]) {
+    let job = &input[job_at..];
     let head = calls::head(job);
-    match head {
-        HeadAnswer::Wanted(heading) => make(job, heading, chip, cuts),
-        HeadAnswer::Refused(e) => lines::refused(e),
-    }
-}
-
-fn make(job: &[u8], heading: Heading, chip: Chip, cuts: &[usize]) {
-    let asked = heading.device;
-    if heading.tape_at != job.len() {
-        lines::refused(Error::BadTape);
+    let HeadAnswer::Wanted(heading) = head else {
+        refusing::calls(input, calls_at);
+        return;
+    };
+    let device = heading.device;
+    let end = std::num::wrapping_add_usize(job_at, heading.tape_at);
+    if end != input.len() {
+        refusing::field_at(input, end);
         return;
     }
+    make(input, job, device, chip, cuts);
+}
+
+fn make(input: &[u8], job: &[u8], asked: Device, chip: Chip, cuts: &[usize]) {
     let made = BQ769x0::new(asked.x, asked.address, asked.cells, asked.check);
     let answer = made.answer;
     let device = made.device;
     match answer {
         NewAnswer::Made => run(job, device, chip, cuts),
-        NewAnswer::Refused(e) => lines::refused(e),
+        NewAnswer::Refused(e) => lines::refused::in_job(e, input, 0, 0x20),
     }
 }
 

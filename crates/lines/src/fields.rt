@@ -1,8 +1,8 @@
-// The fields of a log, a line each.
+// The fields of a log and of a tape.
 ghost use Prim.Native.Nat.{_≤_};
 
 // The byte k places after place i, or 0 past the end.
-fn byte(bytes: &[u8], i: usize, k: usize) -> u8 {
+pub(crate) fn byte(bytes: &[u8], i: usize, k: usize) -> u8 {
     if bytes.len() <= i {
         return 0;
     }
@@ -12,45 +12,53 @@ fn byte(bytes: &[u8], i: usize, k: usize) -> u8 {
     bytes[i + k]
 }
 
-fn sent(log: &[u8], i: usize, size: usize) {
-    let mut k = 4;
-    while k < size {
-        text::hex(byte(log, i, k));
+// Those from one to another of the bytes after place i.
+pub(crate) fn bytes(file: i32, bytes: &[u8], i: usize, from: usize, before: usize) {
+    let mut k = from;
+    while k < before {
+        text::hex_to(file, byte(bytes, i, k));
         k += 1;
     }
 }
 
-// A write is its register and the bytes sent after it, a read its register and the count of bytes on the bus.
-fn field(log: &[u8], i: usize, size: usize) {
+// Of a write its register and the bytes sent after it, of a read its register and the count of bytes on the bus.
+pub(crate) fn transfer(file: i32, log: &[u8], i: usize) {
     if byte(log, i, 0) == 0x11 {
-        text::words(b"W");
-        sent(log, i, size);
+        text::words_to(file, b"W");
+        bytes(file, log, i, 4, size(log, i));
     } else {
-        text::words(b"R");
-        text::hex(byte(log, i, 4));
-        text::number(numbers::be_u16(byte(log, i, 5), byte(log, i, 6)) as u64);
+        text::words_to(file, b"R");
+        text::hex_to(file, byte(log, i, 4));
+        text::number_to(
+            file,
+            numbers::be_u16(byte(log, i, 5), byte(log, i, 6)) as u64,
+        );
     }
-    text::words(b"\n");
 }
 
 // The field's size, with its tag and length.
-fn size(log: &[u8], i: usize) -> usize
+pub(crate) fn size(log: &[u8], i: usize) -> usize
     ensures { λ r. ⌜ 3 ≤ r ⌝ }
 {
     3 + numbers::be_u16(byte(log, i, 1), byte(log, i, 2)) as usize
 }
 
-fn least(a: usize, b: usize) -> usize {
+pub(crate) fn least(a: usize, b: usize) -> usize {
     if a < b { a } else { b }
 }
 
-// Those of the part of the log that starts at one place and ends before another, or where the log ends.
+fn line(log: &[u8], i: usize) {
+    transfer(text::OUT, log, i);
+    text::words(b"\n");
+}
+
+// A line each, of the part of the log that starts at one place and ends before another, or where the log ends.
 pub(crate) fn between(log: &[u8], from: usize, before: usize) {
     let end = least(before, log.len());
     let mut i = from;
     while i < end {
         let size = size(log, i);
-        field(log, i, size);
+        line(log, i);
         if end - i < size {
             return;
         }

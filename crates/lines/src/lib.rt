@@ -1,63 +1,21 @@
 // The lines of one call: its transfers, and what it answered.
 use bus::Cursor;
+use plan::CalculatedValues;
 use plan::InitAnswer;
 use plan::answer::InitNumbers;
-use refusals::Error;
 
 mod fields;
+pub mod refused;
 
 // The fields that a call added to the log.
 pub fn transfers(log: &[u8], at: Cursor, next: Cursor) {
     fields::between(log, at.log, next.log);
 }
 
-// A refusal's number, and as many of the two figures as it names; its name goes to standard error.
-pub fn refused(e: Error) {
-    named(e);
-    let numbers = e.in_numbers();
-    text::words(b"refused");
-    text::number(numbers.0 as u64);
-    if 0 < numbers.1 {
-        text::number(numbers.2 as u64);
-    }
-    if 1 < numbers.1 {
-        text::number(numbers.3 as u64);
-    }
-    text::words(b"\n");
-}
-
-fn named(e: Error) {
-    match e {
-        Error::CRCMismatch => text::aside(b"CRCMismatch\n"),
-        Error::I2CError => text::aside(b"I2CError\n"),
-        Error::BufTooLarge => text::aside(b"BufTooLarge\n"),
-        Error::Uninitialized => text::aside(b"Uninitialized\n"),
-        Error::VerifyError(_) => text::aside(b"VerifyError\n"),
-        Error::OCDSCDRangeMismatch => text::aside(b"OCDSCDRangeMismatch\n"),
-        Error::UVThresholdUnobtainable(_, _) => text::aside(b"UVThresholdUnobtainable\n"),
-        Error::OVThresholdUnobtainable(_, _) => text::aside(b"OVThresholdUnobtainable\n"),
-        Error::BadDevice => text::aside(b"BadDevice\n"),
-        Error::BadCellCount => text::aside(b"BadCellCount\n"),
-        Error::BadAddress => text::aside(b"BadAddress\n"),
-        Error::BadShunt => text::aside(b"BadShunt\n"),
-        Error::CurrentTooLarge => text::aside(b"CurrentTooLarge\n"),
-        Error::RegisterRunsOut => text::aside(b"RegisterRunsOut\n"),
-        Error::BadTape => text::aside(b"BadTape\n"),
-        Error::TapeEnded => text::aside(b"TapeEnded\n"),
-        Error::LogFull => text::aside(b"LogFull\n"),
-        Error::UnknownFlags => text::aside(b"UnknownFlags\n"),
-        Error::NoRoom => text::aside(b"NoRoom\n"),
-        Error::UnknownRange => text::aside(b"UnknownRange\n"),
-        Error::NoSuchInput => text::aside(b"NoSuchInput\n"),
-    }
-}
-
-// What an init reports, or what it refuses with.
-pub fn init(answer: InitAnswer) {
-    match answer {
-        InitAnswer::Ready(_) => ready(answer.in_numbers()),
-        InitAnswer::Refused(e) => refused(e),
-    }
+// What an init reports.
+pub fn init(values: CalculatedValues) {
+    let answer = InitAnswer::Ready(values);
+    ready(answer.in_numbers());
 }
 
 fn ready(numbers: InitNumbers) {

@@ -8,6 +8,7 @@ use bq769x0::BQ769x0;
 use bq769x0::Readings;
 use bus::Cursor;
 use bus::link::Link;
+use call_text::refusing;
 use call_text::state::Prints;
 use call_text::state::State;
 use calls::HeadAnswer;
@@ -85,33 +86,38 @@ fn is_given(input: &[u8]) -> bool
     (input[0] == 0x1E) & (len == 88) & (input[3] < 2)
 }
 
+// For field 1E.
+fn refused(input: &[u8]) {
+    lines::refused::in_job(Error::BadTape, input, 0, 0x1E);
+}
+
 // 15, then the calls, whatever the record.
 pub(crate) fn print(input: &[u8]) {
     if input.len() < JOB_AT {
-        lines::refused(Error::BadTape);
+        refused(input);
         return;
     }
     if !is_given(input) {
-        lines::refused(Error::BadTape);
+        refused(input);
         return;
     }
     let job = &input[JOB_AT..];
     let head = calls::head(job);
     match head {
-        HeadAnswer::Wanted(heading) => run(&input[3..JOB_AT], job, heading),
-        HeadAnswer::Refused(e) => lines::refused(e),
+        HeadAnswer::Wanted(heading) => run(input, &input[3..JOB_AT], job, heading),
+        HeadAnswer::Refused(_) => refusing::job(input, JOB_AT, JOB_AT + calls::CALLS_AT),
     }
 }
 
 // 15 where the log is asked too large; each byte of it is EE before.
-fn run(value: &[u8], job: &[u8], heading: Heading)
+fn run(input: &[u8], value: &[u8], job: &[u8], heading: Heading)
     requires { ⌜ length (now value) ≡ 88 ⌝ }
 {
     let asked = heading.device;
     let tape_at = heading.tape_at;
     let size = four(value, 68) as usize;
     if 65536 < size {
-        lines::refused(Error::BadTape);
+        refused(input);
         return;
     }
     let state = state_of(asked, value);

@@ -1,6 +1,6 @@
 -- `call_text::in_turn` ends: each field is longer than nothing, and lies within the input. Assumes nothing.
 use mathlib.Core.Path.{_≡_, sym, ap, _∙_}
-use Prim.Native.Nat.{ℕ, _-_}
+use Prim.Native.Nat.{ℕ, _-_, _≤_}
 use native.Mathlib.Omega.{arith}
 use mathlib.Core.List.{List}
 use denote.Ref.{now}
@@ -13,10 +13,10 @@ use Rattle.call_text.proofs.in_turn.Statement.{statement}
 use Rattle.call_text.proofs.in_turn.Tie as tie
 
 abbrev Inv-loop : tie.InvT-loop
-Inv-loop input tape log₀ state₀ place₀ log state place = length log ≡ length log₀
+Inv-loop input tape log₀ state₀ place₀ number₀ log state place number = (length log ≡ length log₀) × (number ≤ place)
 
 abbrev μ-loop : tie.MeasureT-loop
-μ-loop input tape log₀ state₀ place₀ log state place = length input - place
+μ-loop input tape log₀ state₀ place₀ number₀ log state place number = length input - place
 
 -- ---- the places, each from a later one
 abbrev at-field : tie.After-known-told Inv-loop μ-loop → tie.After-field-at Inv-loop μ-loop
@@ -68,6 +68,9 @@ add-end c =
     let h = inside _ _ _ (field-is (c .before)) in
     search needs
 
+add-number : tie.Need-add-number Inv-loop μ-loop
+add-number c = search needs
+
 sub-call : tie.Need-sub-call Inv-loop μ-loop
 sub-call c = search needs
 
@@ -88,7 +91,9 @@ loop-less c =
     omega arith
 
 loop-again : tie.Need-loop-again Inv-loop μ-loop
-loop-again c = search needs
+loop-again c =
+    let s = starts _ _ _ (field-is (at-known (c .before .before))) in
+    search needs
 
 same-length-3 : tie.Need-same-length-3 Inv-loop μ-loop
 same-length-3 c = search needs
@@ -111,6 +116,7 @@ in-turn-spec =
     same-length-2
     returns-2
     add-end
+    add-number
     sub-call
     part-call-start
     part-call-end

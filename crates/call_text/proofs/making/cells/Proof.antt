@@ -29,6 +29,9 @@ cell-voltages-requires c κs = search needs
 fresh-requires : tie.Need-fresh-requires
 fresh-requires c κs = search needs
 
+raw-requires : tie.Need-raw-requires
+raw-requires c κs = search needs
+
 same-length : tie.Need-same-length
 same-length c = search needs
 
@@ -47,5 +50,6 @@ cells-spec =
     slice-aggregate-cell-voltages
     cell-voltages-requires
     fresh-requires
+    raw-requires
     same-length
     returns-2)

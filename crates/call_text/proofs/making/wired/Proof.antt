@@ -41,6 +41,9 @@ wired-requires c κs = search needs
 fresh-requires : tie.Need-fresh-requires
 fresh-requires c κs = search needs
 
+raw-requires : tie.Need-raw-requires
+raw-requires c κs = search needs
+
 same-length : tie.Need-same-length
 same-length c = search needs
 
@@ -63,5 +66,6 @@ wired-spec =
     slice-aggregate-wired-2
     wired-requires
     fresh-requires
+    raw-requires
     same-length
     returns-2)

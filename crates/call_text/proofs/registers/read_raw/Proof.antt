@@ -44,6 +44,9 @@ read-raw-requires c κs = search needs
 fresh-requires : tie.Need-fresh-requires
 fresh-requires c κs = search needs
 
+raw-requires : tie.Need-raw-requires
+raw-requires c κs = search needs
+
 same-length : tie.Need-same-length
 same-length c = search needs
 
@@ -67,5 +70,6 @@ read-raw-spec =
     slice-aggregate-read-raw
     read-raw-requires
     fresh-requires
+    raw-requires
     same-length
     returns-3)

@@ -20,8 +20,8 @@ loop-holds c = search needs
 size-requires : tie.Need-size-requires Inv-loop μ-loop
 size-requires c κs = search needs
 
-field-requires : tie.Need-field-requires Inv-loop μ-loop
-field-requires c κs = search needs
+line-requires : tie.Need-line-requires Inv-loop μ-loop
+line-requires c κs = search needs
 
 sub-if1 : tie.Need-sub-if1 Inv-loop μ-loop
 sub-if1 c = search needs
@@ -50,7 +50,7 @@ between-spec =
     least-requires
     loop-holds
     size-requires
-    field-requires
+    line-requires
     sub-if1
     returns
     add-i
