@@ -10,7 +10,7 @@ use native.Mathlib.Omega.{arith}
 use lib.Dec.{eqb, leb, ltb}
 use lib.IntN.{pos}
 use lib.ListN.{length, replicate, length-replicate}
-use borrow.Author.Tests.{eqb-true, leb-true}
+use borrow.Author.Tests.{eq-eqb, eqb-true, leb-true}
 use Rattle.laws.specs.Choice.{if_then_else_}
 use Rattle.refusals.specs.Refusal.{Refusal, Answer, value, refused, refusalIn, answering, no}
 use Rattle.refusals.proofs.Values.{refused-not}
@@ -179,17 +179,42 @@ module _ (s : Link) (reg : ℕ) where
       (λ r h q. subst (ReadSeen (s .check) (s .address) reg n (given r)) (sym (append-nil h))
       (subst (λ (k : ℕ). ReadSeen (s .check) (s .address) reg k (given r) h) size q))
 
--- ---- a write
-
-data SendForm (s : Link) (reg : ℕ) (bytes : List ℕ) : Prog (Answer Done) → Type 0 where
-  turned-off : (n : ℕ) → OfBus (no n []) → SendForm s reg bytes (ret (refuses n))
-  sent : SendForm s reg bytes (ask (write (s .address) (writeFrame (s .check) (s .address) reg bytes)) (λ o. ret (wrote o)))
-
 -- what a frame that was made of bytes carries is these bytes
 carried-framed : (check : Bool) (before bytes : List ℕ) → carried check before (framed check before bytes) ≡ bytes
 unfolding carried framed
 carried-framed false before bytes = refl
 carried-framed true before bytes = rw (right-checked before bytes, data-checked before bytes)
+
+-- of what was read, a register is found where it stands first, and another one behind it
+pub found : (address reg : ℕ) (bytes : List ℕ) (more : List Access) → firstOf address reg (access address reg bytes ∷ more) ≡ bytes
+found address reg bytes more = rw (eq-eqb address address refl, eq-eqb reg reg refl)
+
+pub passed : (address another reg other : ℕ) (bytes : List ℕ) (more : List Access) → eqb reg other ≡ false
+    → firstOf another other (access address reg bytes ∷ more) ≡ firstOf another other more
+passed address another reg other bytes more e = rw e (by (eqb address another))
+  where
+    by : (t : Bool) → (if t && false then bytes else firstOf another other more) ≡ firstOf another other more
+    by true = refl
+    by false = refl
+
+-- an accepted read, among what was read and written
+module _ (check : Bool) (address reg n : ℕ) (bytes : List ℕ) (h : List Made) where
+  abbrev pub accepted : Made
+  accepted = (read address reg n, done (readFrame check address bytes))
+
+  pub got : reads check (accepted ∷ h) ≡ access address reg bytes ∷ reads check h
+  unfolding reads gotBy readFrame
+  got = ap (λ (l : List ℕ). access address reg l ∷ reads check h) (carried-framed check (readByte address ∷ []) bytes)
+
+  pub unsent : writes check (accepted ∷ h) ≡ writes check h
+  unfolding writes sentBy
+  unsent = refl
+
+-- ---- a write
+
+data SendForm (s : Link) (reg : ℕ) (bytes : List ℕ) : Prog (Answer Done) → Type 0 where
+  turned-off : (n : ℕ) → OfBus (no n []) → SendForm s reg bytes (ret (refuses n))
+  sent : SendForm s reg bytes (ask (write (s .address) (writeFrame (s .check) (s .address) reg bytes)) (λ o. ret (wrote o)))
 
 module _ (s : Link) (reg : ℕ) (bytes : List ℕ) where
   -- the bytes, written
@@ -198,7 +223,8 @@ module _ (s : Link) (reg : ℕ) (bytes : List ℕ) where
 
   -- no other register was read
   abbrev pub Elsewhere : List Made → Type 0
-  Elsewhere h = (address other : ℕ) → eqb reg other ≡ false → firstOf address other (reads (s .check) h) ≡ []
+  Elsewhere h = (address other : ℕ) (more : List Access) → eqb reg other ≡ false
+      → firstOf address other (reads (s .check) h ++ more) ≡ firstOf address other more
 
   abbrev pub WriteSeen : Answer Done → List Made → Type 0
   WriteSeen (value x) h = (writes (s .check) h ≡ these) × Elsewhere h
@@ -245,7 +271,7 @@ module _ (s : Link) (reg : ℕ) (bytes : List ℕ) where
       then-writes = writes-append (s .check) h g ∙ rw (q .0, unwritten)
 
       then-elsewhere : Elsewhere (h ++ g)
-      then-elsewhere a r other = rw (reads-append (s .check) h g, q .1) (e a r other)
+      then-elsewhere a r more other = rw (reads-append (s .check) h g, q .1) (e a r more other)
 
       compared-seen : (from : ℕ) (here back : List ℕ) → WriteSeen (compared from here back) (h ++ g)
       unfolding compared
@@ -261,14 +287,6 @@ module _ (s : Link) (reg : ℕ) (bytes : List ℕ) where
       refused-seen : (r : Refusal) → OfBus r → WriteSeen (refused r) (h ++ g)
       refused-seen r k = (inr then-writes, then-elsewhere, k)
 
-    elsewhere : (x : List ℕ) (address other : ℕ) → eqb reg other ≡ false
-        → (if eqb (s .address) address && eqb reg other then x else []) ≡ []
-    elsewhere x address other e = rw e (by (eqb (s .address) address))
-      where
-        by : (t : Bool) → (if t && false then x else []) ≡ []
-        by true = refl
-        by false = refl
-
     back-seen : (h : List Made) → SendSeen (value tt) h
         → throughout (λ y g. WriteSeen y (h ++ g)) (askBack (s .address) reg bytes)
     unfolding askBack throughout wanted verified made writes sentBy reads gotBy
@@ -278,18 +296,18 @@ module _ (s : Link) (reg : ℕ) (bytes : List ℕ) where
         t = read (s .address) reg (length bytes)
 
         by : (o : Outcome) → Sized (length bytes) o → WriteSeen (verified reg bytes o) (h ++ made t o [])
-        by (done back) sized = compared-seen h ((t, done back) ∷ []) q refl (λ a r e. elsewhere _ a r e) reg bytes back
-        by (fault back) sized = refused-seen h ((t, fault back) ∷ []) q refl (λ a r e. refl) (no 2 []) refl
-        by (stopped x) sized = refused-seen h [] q refl (λ a r e. refl) x (of-stop x sized)
+        by (done back) sized = compared-seen h ((t, done back) ∷ []) q refl (λ a r more e. passed (s .address) a reg r _ more e) reg bytes back
+        by (fault back) sized = refused-seen h ((t, fault back) ∷ []) q refl (λ a r more e. refl) (no 2 []) refl
+        by (stopped x) sized = refused-seen h [] q refl (λ a r more e. refl) x (of-stop x sized)
 
     done-seen : (h : List Made) → SendSeen (value tt) h → WriteSeen (value tt) (h ++ [])
     unfolding writes reads
-    done-seen h q = (then-writes h [] q refl (λ a r e. refl), then-elsewhere h [] q refl (λ a r e. refl))
+    done-seen h q = (then-writes h [] q refl (λ a r more e. refl), then-elsewhere h [] q refl (λ a r more e. refl))
 
     pub write-seen : throughout WriteSeen (writeRaw s reg bytes)
     unfolding writeRaw throughout
     write-seen =
         throughout-call WriteSeen SendSeen (send s reg bytes) refused _ (sent-seen (send s reg bytes) send-form)
-        (λ r h q. (q .0, (λ a o e. ap (firstOf a o) (q .1)), q .2))
+        (λ r h q. (q .0, (λ a o more e. ap (λ (l : List Access). firstOf a o (l ++ more)) (q .1)), q .2))
         (λ x h q. throughout-if (λ y g. WriteSeen y (h ++ g)) (s .check || eqb (length bytes) 0) _ _
         (λ e. done-seen h q) (λ e. back-seen h q))

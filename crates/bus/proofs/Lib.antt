@@ -6,6 +6,7 @@ pub mod Example
 pub mod Exchanges
 pub mod Framed
 pub mod Heard
+pub mod OfBytes
 pub mod Order
 pub mod Programs
 pub mod Raws

@@ -60,6 +60,15 @@ module _ {A B : Type 0} where
       by (value a) h q = on a h q
       by (refused r) h q = subst (P (leave r)) (sym (append-nil h)) (off r h q)
 
+  -- the same where the answer is known
+  pub throughout-pure : (P : B → List Made → Type 0) (y : Answer A) (leave : Refusal → B) (f : A → Prog B)
+      → ((r : Refusal) → y ≡ refused r → P (leave r) [])
+      → ((a : A) → y ≡ value a → throughout P (f a))
+      → throughout P ((ret y orLeave leave) >>= f)
+  unfolding _>>=_ bind throughout proceed
+  throughout-pure P (value a) leave f off on = on a refl
+  throughout-pure P (refused r) leave f off on = off r refl
+
 pub throughout-if : {A : Type 0} (P : A → List Made → Type 0) (t : Bool) (p q : Prog A)
     → (t ≡ true → throughout P p) → (t ≡ false → throughout P q) → throughout P (if t then p else q)
 throughout-if P true p q h k = h refl
