@@ -1,0 +1,58 @@
+-- Demand 2 of `init`, for every run of the code by its promise: on every tape of bytes, every log and all positions its log reads back as
+-- transfers, and what these and the tape show is what the configuration asks for.
+-- Assumes nothing.
+use mathlib.Core.Path.{_≡_, sym, ap, subst, _∙_}
+use mathlib.Core.List.{List, [], _∷_}
+use mathlib.Core.Option.{Option, some}
+use Prim.Native.Nat.{ℕ}
+use Rattle.check_byte.specs.CheckByte.{Bytes}
+use Rattle.refusals.specs.Refusal.{Answer}
+use Rattle.plan.specs.Plan.{Values, asInit}
+use Rattle.plan.specs.Steps.{stepsFor}
+use Rattle.plan.specs.declared.Config.{Config}
+use Rattle.bus.specs.Transfers.{Transfer, Outcome, done, fault, stopped, Bus, busOf, outcome, after}
+use Rattle.bus.specs.Programs.{Prog, Ran, ran, onTape}
+use Rattle.bus.specs.Shown.{Made, shown}
+use Rattle.bus.specs.declared.Cursor.{Cursor}
+use Rattle.bus.proofs.Decoders.{Short, AllShort}
+use Rattle.bus.proofs.Framed.{made, history}
+use Rattle.bus.proofs.OfBytes.{all-bytes}
+use Rattle.bus.proofs.Shown.{shown-made}
+use Rattle.bus.proofs.Throughout.{on-history}
+use Rattle.bq769x0.specs.Record.{Left, leaves}
+use Rattle.bq769x0.specs.declared.BQ769x0.{BQ769x0}
+use Rattle.procedure.specs.Init.{initBy}
+use Rattle.setup.specs.declared.left.Init.{Init}
+use Rattle.chip.proofs.Asks.{Asks, nothing, this}
+use Rattle.recovery.proofs.Asked.{init-fine}
+use Rattle.as_asked.specs.Init.{Demand2, Shows}
+use Rattle.as_asked.proofs.Stages.{Holds-all, init-seen}
+
+-- transfers that fit their fields
+one-short : (t : Transfer) (o : Outcome) (h : List Made) → Short t → AllShort h → AllShort (made t o h)
+unfolding made
+one-short t (done bytes) h s k = (s, k)
+one-short t (fault bytes) h s k = (s, k)
+one-short t (stopped r) h s k = k
+
+pub all-short : {A : Type 0} {p : Prog A} → Asks Short p → (b : Bus) → AllShort (history p b)
+unfolding history
+all-short nothing b = tt
+all-short (this {t = t} s k) b = one-short t (outcome t b) _ s (all-short (k (outcome t b)) (after t (outcome t b) b))
+
+module _ (d : BQ769x0) (config : Config) (tape log : List ℕ) (at : Cursor) (gave : Init) (log′ : List ℕ) where
+  pub demand-2 : Bytes tape
+      → ran (leaves (asInit (gave .answer)) (gave .device)) tape log′ (gave .at) ≡ onTape (initBy stepsFor d config) (busOf tape log at)
+      → Shows d config tape at gave log′
+  demand-2 bytes promise =
+      let p = initBy stepsFor d config in
+      let b = busOf tape log at in
+      record {
+        seen = history p b;
+        reads-back =
+            ap (λ (r : Ran (Left Values)). shown tape (r .bus .log) at (r .bus .at)) promise
+            ∙ shown-made p b (all-short (init-fine stepsFor config d .short) b);
+        demand-2 =
+            subst (Demand2 (d .link) config (history p b)) (sym (ap (λ (r : Ran (Left Values)). r .answer .answer) promise))
+            (on-history (Holds-all d config) p (init-seen d config) b (all-bytes p b bytes));
+      }

@@ -1,0 +1,3 @@
+mod Calibration
+mod Stages
+pub mod Demand2
