@@ -4,7 +4,8 @@
 use mathlib.Core.Path.{_≡_, sym, ap, subst, _∙_}
 use mathlib.Core.List.{List, [], _∷_}
 use mathlib.Core.Option.{Option, some}
-use Prim.Native.Nat.{ℕ}
+use Prim.Native.Nat.{ℕ, suc, _<_, _^_}
+use lib.ListN.{getD}
 use Rattle.check_byte.specs.CheckByte.{Bytes}
 use Rattle.refusals.specs.Refusal.{Answer}
 use Rattle.plan.specs.Plan.{Values, asInit}
@@ -39,6 +40,11 @@ pub all-short : {A : Type 0} {p : Prog A} → Asks Short p → (b : Bus) → All
 unfolding history
 all-short nothing b = tt
 all-short (this {t = t} s k) b = one-short t (outcome t b) _ s (all-short (k (outcome t b)) (after t (outcome t b) b))
+
+-- a list whose every number is a byte
+pub of-bytes : (l : List ℕ) → ((i : ℕ) → getD l i 0 < 2 ^ 8) → Bytes l
+of-bytes [] h = tt
+of-bytes (x ∷ l) h = (h 0, of-bytes l (λ i. h (suc i)))
 
 module _ (d : BQ769x0) (config : Config) (tape log : List ℕ) (at : Cursor) (gave : Init) (log′ : List ℕ) where
   pub demand-2 : Bytes tape

@@ -1,2 +1,14 @@
 // Demand 2: that a call sets what was asked, as its own log and tape show it.
-// There is no code here: `specs/` and `proofs/` are the crate.
+// A function here is a call of the driver, under demand 2 for a contract in place of the call's own promise. Nothing calls it: it is there so that
+// the demand is held to the code, on every input.
+ghost use Rattle.as_asked.specs.Init.{Shows};
+use bq769x0::BQ769x0;
+use bus::Cursor;
+use plan::Config;
+use setup::left::Init;
+
+fn init(device: BQ769x0, config: Config, tape: &[u8], log: &mut [u8], at: Cursor) -> Init
+    ensures { λ r. ⌜ Shows device config (now (tape .entry)) at r (now (log .exit)) ⌝ }
+{
+    setup::init(device, config, tape, log, at)
+}
