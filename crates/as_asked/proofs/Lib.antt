@@ -1,3 +1,4 @@
 mod Calibration
 mod Stages
 pub mod Demand2
+pub mod OnChip

@@ -1,3 +1,4 @@
 pub mod Tables
 pub mod Calibration
 pub mod Init
+pub mod OnChip

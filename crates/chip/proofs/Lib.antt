@@ -9,6 +9,7 @@ pub mod Honest
 pub mod Live
 pub mod Logs
 pub mod Makes
+pub mod NotCut
 pub mod Quits
 pub mod Raws
 pub mod RegisterBytes
