@@ -13,11 +13,10 @@ use Rattle.laws.specs.Choice.{if_then_else_}
 use Rattle.refusals.specs.Refusal.{Refusal, Answer, value}
 use Rattle.adc.specs.Registers.{calibration}
 use Rattle.adc.specs.declared.transfer.AdcTransferFunction.{AdcTransferFunction}
-use Rattle.bus.specs.Programs.{ret}
 use Rattle.bus.specs.Raw.{Done, readBytes}
-use Rattle.bus.specs.Shown.{Made, Access, access, reads, firstOf}
+use Rattle.bus.specs.Shown.{Made, reads, firstOf}
 use Rattle.bus.specs.declared.link.Link.{Link}
-use Rattle.bus.proofs.Exchanges.{OfBus, Silent, ReadSeen, accepted, got, found, passed, read-seen}
+use Rattle.bus.proofs.Exchanges.{OfBus, ReadSeen, accepted, got, found, passed, read-seen}
 use Rattle.bus.proofs.Reading.{onBus}
 use Rattle.bus.proofs.Throughout.{throughout, throughout-call}
 use Rattle.bq769x0.specs.Record.{Left, leaves, leaving}

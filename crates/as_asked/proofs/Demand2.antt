@@ -3,20 +3,17 @@
 -- Assumes nothing.
 use mathlib.Core.Path.{_≡_, sym, ap, subst, _∙_}
 use mathlib.Core.List.{List, [], _∷_}
-use mathlib.Core.Option.{Option, some}
 use Prim.Native.Nat.{ℕ, suc, _<_, _^_}
 use lib.ListN.{getD}
 use Rattle.check_byte.specs.CheckByte.{Bytes}
-use Rattle.refusals.specs.Refusal.{Answer}
 use Rattle.plan.specs.Plan.{Values, asInit}
 use Rattle.plan.specs.Steps.{stepsFor}
 use Rattle.plan.specs.declared.Config.{Config}
-use Rattle.bus.specs.Transfers.{Transfer, Outcome, done, fault, stopped, Bus, busOf, outcome, after}
-use Rattle.bus.specs.Programs.{Prog, Ran, ran, onTape}
-use Rattle.bus.specs.Shown.{Made, shown}
+use Rattle.bus.specs.Transfers.{busOf}
+use Rattle.bus.specs.Programs.{Ran, ran, onTape}
+use Rattle.bus.specs.Shown.{shown}
 use Rattle.bus.specs.declared.Cursor.{Cursor}
-use Rattle.bus.proofs.Decoders.{Short, AllShort}
-use Rattle.bus.proofs.Framed.{made, history}
+use Rattle.bus.proofs.Framed.{history}
 use Rattle.bus.proofs.OfBytes.{all-bytes}
 use Rattle.bus.proofs.Shown.{shown-made}
 use Rattle.bus.proofs.Throughout.{on-history}
@@ -24,22 +21,10 @@ use Rattle.bq769x0.specs.Record.{Left, leaves}
 use Rattle.bq769x0.specs.declared.BQ769x0.{BQ769x0}
 use Rattle.procedure.specs.Init.{initBy}
 use Rattle.setup.specs.declared.left.Init.{Init}
-use Rattle.chip.proofs.Asks.{Asks, nothing, this}
 use Rattle.recovery.proofs.Asked.{init-fine}
 use Rattle.as_asked.specs.Init.{Demand2, Shows}
+use Rattle.as_asked.proofs.Short.{all-short}
 use Rattle.as_asked.proofs.Stages.{Holds-all, init-seen}
-
--- transfers that fit their fields
-one-short : (t : Transfer) (o : Outcome) (h : List Made) → Short t → AllShort h → AllShort (made t o h)
-unfolding made
-one-short t (done bytes) h s k = (s, k)
-one-short t (fault bytes) h s k = (s, k)
-one-short t (stopped r) h s k = k
-
-pub all-short : {A : Type 0} {p : Prog A} → Asks Short p → (b : Bus) → AllShort (history p b)
-unfolding history
-all-short nothing b = tt
-all-short (this {t = t} s k) b = one-short t (outcome t b) _ s (all-short (k (outcome t b)) (after t (outcome t b) b))
 
 -- a list whose every number is a byte
 pub of-bytes : (l : List ℕ) → ((i : ℕ) → getD l i 0 < 2 ^ 8) → Bytes l

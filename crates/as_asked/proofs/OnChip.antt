@@ -2,14 +2,14 @@
 -- Assumes nothing.
 use mathlib.Core.Path.{_≡_, refl, sym, ap, subst, subst₂, _∙_}
 use mathlib.Core.Bool.{Bool, true, false}
-use mathlib.Core.List.{List, []}
+use mathlib.Core.List.{List}
 use Prim.Native.Nat.{ℕ, _+_, _≤_, _<_}
 use native.Mathlib.Omega.{arith}
 use lib.Bits.{bitOr}
-use lib.ListN.{length, take, drop, getD, set, length-set}
+use lib.ListN.{length, take, getD, length-set}
 use lib.Seq.{drop-set-lt, getD-set-same, getD-set-other, take-all}
 use Rattle.check_byte.specs.CheckByte.{Bytes}
-use Rattle.refusals.specs.Refusal.{Refusal, Answer, value, refused, nine}
+use Rattle.refusals.specs.Refusal.{Answer, value, refused, nine}
 use Rattle.refusals.proofs.Values.{refused-not, same-value}
 use Rattle.adc.proofs.Gain.{gain-range, offset-range}
 use Rattle.frames.specs.Put.{put}
@@ -34,7 +34,7 @@ use Rattle.chip.proofs.NotCut.{Alike, not-cut}
 use Rattle.chip.proofs.Quits.{Refuses, refuses-by}
 use Rattle.chip.proofs.RegisterBytes.{getD-byte}
 use Rattle.chip.proofs.Shows.{held-is, held-put}
-use Rattle.recovery.specs.Recovery.{calibrationOf, planOn, counted, firstNew}
+use Rattle.recovery.specs.Recovery.{calibrationOf, planOn, counted}
 use Rattle.recovery.specs.Runs.{Run, leftBy}
 use Rattle.recovery.proofs.Asked.{init-fine}
 use Rattle.recovery.proofs.ByLog.{as-on-chip, left-by-log}

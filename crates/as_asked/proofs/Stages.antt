@@ -1,22 +1,18 @@
 -- Demand 2 of `init`, stage by stage, of what its transfers show, whatever they are answered, the bytes being bytes.
 -- Assumes nothing.
 use mathlib.Core.Path.{_≡_, refl, sym, ap, ap₂, subst, _∙_}
-use mathlib.Core.Bool.{Bool, true, false, not, _&&_}
-use mathlib.Core.List.{List, [], _∷_, _++_, append-assoc, append-nil}
+use mathlib.Core.Bool.{Bool, true, false, not}
+use mathlib.Core.List.{List, [], _∷_, _++_, append-nil}
 use mathlib.Core.Option.{none, some, bind}
-use Prim.Native.Nat.{ℕ, _≤_, _<_, _^_}
+use Prim.Native.Nat.{ℕ, _≤_, _<_}
 use native.Mathlib.Omega.{arith}
 use lib.Bits.{bitOr}
-use lib.Dec.{T, eqb, leb, eqb→eq}
-use lib.IntN.{ℤ}
+use lib.Dec.{T, eqb, eqb→eq}
 use lib.ListN.{length, getD}
-use lib.Signed.{mag}
-use Rattle.laws.specs.Choice.{if_then_else_}
 use Rattle.laws.proofs.Tests.{allBelow, below}
 use Rattle.check_byte.specs.CheckByte.{Bytes}
 use Rattle.refusals.specs.Refusal.{Refusal, Answer, value, refused, refusalIn, nine, no}
 use Rattle.refusals.proofs.Values.{refused-not, same-value}
-use Rattle.adc.specs.Registers.{calibration}
 use Rattle.adc.specs.declared.transfer.AdcTransferFunction.{AdcTransferFunction}
 use Rattle.adc.proofs.Gain.{gain-range, offset-range}
 use Rattle.frames.specs.Frames.{readByte, checked, readFrame, framed}
@@ -29,14 +25,12 @@ use Rattle.plan.specs.declared.Config.{Config}
 use Rattle.plan.proofs.AsAsked.{Given, given, exactly, as-asked}
 use Rattle.plan.proofs.Only.{Only, shunt-only, step-only}
 use Rattle.plan.proofs.Six.{plan-six}
-use Rattle.bus.specs.Programs.{ret}
 use Rattle.bus.specs.Raw.{Done, readBytes, writeRaw}
 use Rattle.bus.specs.Shown.{Made, Access, access, reads, writes, firstOf}
 use Rattle.bus.specs.declared.link.Link.{Link}
 use Rattle.chip.proofs.RegisterBytes.{getD-byte}
 use Rattle.bus.proofs.Exchanges.{OfBus, ReadSeen, WriteSeen, unsent, read-seen, write-seen}
 use Rattle.bus.proofs.OfBytes.{AllBytes}
-use Rattle.bus.proofs.Reading.{onBus}
 use Rattle.bus.proofs.Shown.{reads-append, writes-append}
 use Rattle.bus.proofs.Throughout.{throughout, throughout-bind, throughout-call, throughout-pure, throughout-if}
 use Rattle.bq769x0.specs.Record.{Left, leaves, leaving, isSound, withShunt}

@@ -1,16 +1,16 @@
 -- Demand 2 of `init`: what its own log and tape show beside what it answers.
 -- Assumes nothing.
-use Prim.Native.Nat.{ℕ, _≤_, _<_}
+use Prim.Native.Nat.{ℕ}
 use mathlib.Core.Path.{_≡_}
 use mathlib.Core.List.{List, [], _∷_}
-use mathlib.Core.Option.{Option, some, bind}
-use Rattle.refusals.specs.Refusal.{Refusal, Answer, value}
+use mathlib.Core.Option.{some, bind}
+use Rattle.refusals.specs.Refusal.{Answer, value}
 use Rattle.adc.specs.declared.transfer.AdcTransferFunction.{AdcTransferFunction}
 use Rattle.plan.specs.AsAsked.{AsAsked}
 use Rattle.plan.specs.Exactly.{of678, unfit}
 use Rattle.plan.specs.Plan.{Values, asInit}
 use Rattle.plan.specs.declared.Config.{Config}
-use Rattle.bus.specs.Shown.{Made, shown, Access, access, writes}
+use Rattle.bus.specs.Shown.{Made, shown, access, writes}
 use Rattle.bus.specs.declared.Cursor.{Cursor}
 use Rattle.bus.specs.declared.link.Link.{Link}
 use Rattle.bq769x0.specs.declared.BQ769x0.{BQ769x0}

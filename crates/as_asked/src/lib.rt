@@ -2,8 +2,11 @@
 // A function here is a call of the driver, under demand 2 for a contract in place of the call's own promise. Nothing calls it: it is there so that
 // the demand is held to the code, on every input.
 ghost use Rattle.as_asked.specs.Init.{Shows};
+ghost use Rattle.as_asked.specs.Reading.{ExactlyRead};
 use bq769x0::BQ769x0;
 use bus::Cursor;
+use bus::link::Link;
+use bus::link::Raw;
 use plan::Config;
 use setup::left::Init;
 
@@ -11,4 +14,17 @@ fn init(device: BQ769x0, config: Config, tape: &[u8], log: &mut [u8], at: Cursor
     ensures { λ r. ⌜ Shows device config (now (tape .entry)) at r (now (log .exit)) ⌝ }
 {
     setup::init(device, config, tape, log, at)
+}
+
+fn read_raw(
+    link: Link,
+    reg_address: u8,
+    data: &mut [u8],
+    tape: &[u8],
+    log: &mut [u8],
+    at: Cursor,
+) -> Raw
+    ensures { λ r. ⌜ ExactlyRead link «reg_address» (now (tape .entry)) at r (now (log .exit)) (now («data» .exit)) ⌝ }
+{
+    raw::read_raw(link, reg_address, data, tape, log, at)
 }
