@@ -22,7 +22,7 @@ use Rattle.bus.proofs.Throughout.{throughout, throughout-call}
 use Rattle.bq769x0.specs.Record.{Left, leaves, leaving}
 use Rattle.bq769x0.specs.declared.BQ769x0.{BQ769x0}
 use Rattle.procedure.specs.Calibrate.{calibrated, calibrate}
-use Rattle.as_asked.specs.Calibration.{given, calibrationIn}
+use Rattle.as_asked.specs.Seen.{given, calibrationIn}
 
 module _ (link : Link) where
   -- an accepted read of some registers

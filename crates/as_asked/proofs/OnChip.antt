@@ -41,7 +41,7 @@ use Rattle.recovery.proofs.ByLog.{as-on-chip, left-by-log}
 use Rattle.recovery.proofs.Whole.{ends, whole}
 use Rattle.as_asked.specs.Tables.{sysCtrl2}
 use Rattle.as_asked.specs.OnChip.{SetOnChip}
-use Rattle.as_asked.proofs.Stages.{counter-on}
+use Rattle.as_asked.proofs.Bytes.{counter-on}
 
 -- ---- the registers with six new ones from 06 on, and bit 6 of 05 set
 module _ (six regs : List ℕ) (size : length regs ≡ 256) (all : length six ≡ 6) where

@@ -1,21 +1,18 @@
 -- Demand 2 of `init`, stage by stage, of what its transfers show, whatever they are answered, the bytes being bytes.
 -- Assumes nothing.
 use mathlib.Core.Path.{_≡_, refl, sym, ap, ap₂, subst, _∙_}
-use mathlib.Core.Bool.{Bool, true, false, not}
+use mathlib.Core.Bool.{Bool, not}
 use mathlib.Core.List.{List, [], _∷_, _++_, append-nil}
 use mathlib.Core.Option.{none, some, bind}
-use Prim.Native.Nat.{ℕ, _≤_, _<_}
+use Prim.Native.Nat.{ℕ, _≤_}
 use native.Mathlib.Omega.{arith}
 use lib.Bits.{bitOr}
-use lib.Dec.{T, eqb, eqb→eq}
 use lib.ListN.{length, getD}
-use Rattle.laws.proofs.Tests.{allBelow, below}
 use Rattle.check_byte.specs.CheckByte.{Bytes}
 use Rattle.refusals.specs.Refusal.{Refusal, Answer, value, refused, refusalIn, nine, no}
 use Rattle.refusals.proofs.Values.{refused-not, same-value}
 use Rattle.adc.specs.declared.transfer.AdcTransferFunction.{AdcTransferFunction}
 use Rattle.adc.proofs.Gain.{gain-range, offset-range}
-use Rattle.frames.specs.Frames.{readByte, checked, readFrame, framed}
 use Rattle.protection.specs.Steps.{scdLower, scdUpper, ocdLower, ocdUpper}
 use Rattle.plan.specs.Exactly.{of678, unfit}
 use Rattle.plan.specs.Order as order
@@ -38,9 +35,9 @@ use Rattle.bq769x0.specs.Registers.{soundly}
 use Rattle.bq769x0.specs.declared.BQ769x0.{BQ769x0}
 use Rattle.procedure.specs.Calibrate.{calibrated, calibrate}
 use Rattle.procedure.specs.Init.{onward, onwardBy, startCounter, protect, initBy}
-use Rattle.as_asked.specs.Calibration as seen
-use Rattle.as_asked.specs.Tables.{sysCtrl2, counting}
+use Rattle.as_asked.specs.Seen as seen
 use Rattle.as_asked.specs.Init.{SetAsAsked, Demand2}
+use Rattle.as_asked.proofs.Bytes.{data-bytes, behind-bytes, one-byte, counter-on}
 use Rattle.as_asked.proofs.Calibration.{of, given-here, given-behind, none-in, both, read, read-in, Calibrates, both-read, not-read, calibrate-seen}
 
 -- ---- a refusal that is no plan's
@@ -73,40 +70,6 @@ module _ (link : Link) (config : Config) where
     accepted = λ v q. refused-not q;
     refused = of-bus r e ∙ sym (rw (none-in link h away));
   }
-
--- ---- bytes
-checked-bytes : (before bytes : List ℕ) → Bytes (checked before bytes) → Bytes bytes
-unfolding checked
-checked-bytes before [] h = tt
-checked-bytes before (x ∷ bytes) h = (h .0, checked-bytes [] bytes (h .1 .1))
-
-data-bytes : (check : Bool) (address : ℕ) (bytes : List ℕ) → Bytes (readFrame check address bytes) → Bytes bytes
-unfolding readFrame framed
-data-bytes false address bytes h = h
-data-bytes true address bytes h = checked-bytes (readByte address ∷ []) bytes h
-
-behind-bytes : (h g : List Made) → AllBytes (h ++ g) → AllBytes g
-behind-bytes [] g ok = ok
-behind-bytes (m ∷ h) g ok = behind-bytes h g (ok .1)
-
-one-byte : (l : List ℕ) → length l ≡ 1 → l ≡ getD l 0 0 ∷ []
-one-byte [] e = absurd (omega arith)
-one-byte (x ∷ []) e = refl
-one-byte (x ∷ y ∷ l) e = absurd (omega arith)
-
--- ---- 05: bit 6 set is the counter on, of every byte
-each : (f g : ℕ → ℕ) → T (allBelow 256 (λ n. eqb (f n) (g n))) → (n : ℕ) → n < 256 → f n ≡ g n
-each f g all n h = eqb→eq (f n) (g n) (below 256 (λ n. eqb (f n) (g n)) all n h)
-
-pub counter-on : (was : ℕ) → was < 256 → sysCtrl2 (bitOr was 64) ≡ counting (sysCtrl2 was)
-counter-on was h = λ i. record {
-  delayDis = each (λ n. sysCtrl2 (bitOr n 64) .delayDis) (λ n. sysCtrl2 n .delayDis) tt was h i;
-  ccEn = each (λ n. sysCtrl2 (bitOr n 64) .ccEn) (λ n. 1) tt was h i;
-  ccOneshot = each (λ n. sysCtrl2 (bitOr n 64) .ccOneshot) (λ n. sysCtrl2 n .ccOneshot) tt was h i;
-  reserved42 = each (λ n. sysCtrl2 (bitOr n 64) .reserved42) (λ n. sysCtrl2 n .reserved42) tt was h i;
-  dsgOn = each (λ n. sysCtrl2 (bitOr n 64) .dsgOn) (λ n. sysCtrl2 n .dsgOn) tt was h i;
-  chgOn = each (λ n. sysCtrl2 (bitOr n 64) .chgOn) (λ n. sysCtrl2 n .chgOn) tt was h i;
-}
 
 -- ---- after the calibration
 module _ (d : BQ769x0) (config : Config) (steps : InMv) (g : Given config steps)

@@ -8,15 +8,12 @@ use Rattle.refusals.specs.Refusal.{Answer, value}
 use Rattle.adc.specs.declared.transfer.AdcTransferFunction.{AdcTransferFunction}
 use Rattle.plan.specs.AsAsked.{AsAsked}
 use Rattle.plan.specs.Exactly.{of678, unfit}
-use Rattle.plan.specs.Plan.{Values, asInit}
+use Rattle.plan.specs.Plan.{Values}
 use Rattle.plan.specs.declared.Config.{Config}
-use Rattle.bus.specs.Shown.{Made, shown, access, writes}
-use Rattle.bus.specs.declared.Cursor.{Cursor}
+use Rattle.bus.specs.Shown.{Made, access, writes}
 use Rattle.bus.specs.declared.link.Link.{Link}
-use Rattle.bq769x0.specs.declared.BQ769x0.{BQ769x0}
-use Rattle.setup.specs.declared.left.Init.{Init}
 use Rattle.as_asked.specs.Tables.{sysCtrl2, counting}
-use Rattle.as_asked.specs.Calibration.{given, calibrationIn}
+use Rattle.as_asked.specs.Seen.{given, calibrationIn}
 
 module _ (link : Link) (config : Config) (seen : List Made) where
   -- accepted, with these values
@@ -38,10 +35,3 @@ module _ (link : Link) (config : Config) (seen : List Made) where
     pub accepted : (v : Values) → answer ≡ value v → SetAsAsked v
     -- 6, 8 and 7 exactly where the calibration that was read says so, with exactly its limits
     pub refused : of678 answer ≡ bind (calibrationIn link seen) (λ adc. unfit (adc .gain) (adc .offset) config)
-
--- a call on this tape and log, at these positions, that gave this back and left this log: the log reads back as transfers, and of these and what
--- the tape said to them demand 2 holds
-pub record Shows (d : BQ769x0) (config : Config) (tape : List ℕ) (at : Cursor) (gave : Init) (log′ : List ℕ) : Type 0 where
-  pub seen : List Made
-  pub reads-back : shown tape log′ at (gave .at) ≡ some seen
-  pub demand-2 : Demand2 (d .link) config seen (asInit (gave .answer))

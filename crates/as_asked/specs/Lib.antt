@@ -1,5 +1,6 @@
 pub mod Reading
 pub mod Tables
-pub mod Calibration
+pub mod Seen
 pub mod Init
 pub mod OnChip
+pub mod Commands

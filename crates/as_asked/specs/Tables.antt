@@ -74,13 +74,54 @@ sysCtrl2 byte = record {
   chgOn = field 0 0 byte;
 }
 
--- the counter on, and all else as it was
-abbrev pub counting : SysCtrl2 → SysCtrl2
-counting was = record {
+-- ---- one field as asked, or two, and every other as it was
+abbrev pub withSwitches : ℕ → ℕ → SysCtrl2 → SysCtrl2
+withSwitches dsg chg was = record {
   delayDis = was .delayDis;
-  ccEn = 1;
+  ccEn = was .ccEn;
   ccOneshot = was .ccOneshot;
+  reserved42 = was .reserved42;
+  dsgOn = dsg;
+  chgOn = chg;
+}
+
+abbrev pub withDsgOn : ℕ → SysCtrl2 → SysCtrl2
+withDsgOn on was = withSwitches on (was .chgOn) was
+
+abbrev pub withChgOn : ℕ → SysCtrl2 → SysCtrl2
+withChgOn on was = withSwitches (was .dsgOn) on was
+
+abbrev pub withCounter : ℕ → ℕ → SysCtrl2 → SysCtrl2
+withCounter en oneshot was = record {
+  delayDis = was .delayDis;
+  ccEn = en;
+  ccOneshot = oneshot;
   reserved42 = was .reserved42;
   dsgOn = was .dsgOn;
   chgOn = was .chgOn;
 }
+
+-- the counter on
+abbrev pub counting : SysCtrl2 → SysCtrl2
+counting was = withCounter 1 (was .ccOneshot) was
+
+abbrev pub withConverter : ℕ → ℕ → SysCtrl1 → SysCtrl1
+withConverter adc temp was = record {
+  loadPresent = was .loadPresent;
+  reserved65 = was .reserved65;
+  adcEn = adc;
+  tempSel = temp;
+  reserved2 = was .reserved2;
+  shutA = was .shutA;
+  shutB = was .shutB;
+}
+
+abbrev pub withAdcEn : ℕ → SysCtrl1 → SysCtrl1
+withAdcEn on was = withConverter on (was .tempSel) was
+
+abbrev pub withTempSel : ℕ → SysCtrl1 → SysCtrl1
+withTempSel source was = withConverter (was .adcEn) source was
+
+-- ---- 04 with these shut bits, and 0 in every other field
+abbrev pub shutting : ℕ → ℕ → SysCtrl1
+shutting a b = record { loadPresent = 0; reserved65 = 0; adcEn = 0; tempSel = 0; reserved2 = 0; shutA = a; shutB = b }

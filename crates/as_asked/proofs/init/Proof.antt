@@ -21,8 +21,11 @@ at-known c = c .before .before .before .before .before
 lent-bytes : (c : tie.After-shared-slice-known) → Bytes (now (c .before .args .tape))
 lent-bytes c = of-bytes (now (c .before .args .tape)) (λ (i : ℕ). c .shared-slice-known .given i .fits)
 
+abbrev at-init : tie.After-slice-known2 → tie.After-init
+at-init c = c .before .before
+
 returns : tie.Need-returns
-returns c = demand-2 _ _ _ _ _ _ _ (lent-bytes (at-known c)) (c .before .before .init .ensures)
+returns c = demand-2 _ _ _ _ _ (at-init c .init .result) _ (lent-bytes (at-known c)) (at-init c .init .ensures)
 
 pub init-spec : {M : Type 1} → statement M
 init-spec = tie.close (tie.spec init-requires same-length returns)
