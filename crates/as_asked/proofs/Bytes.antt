@@ -3,7 +3,7 @@
 use mathlib.Core.Path.{_≡_, refl}
 use mathlib.Core.Bool.{Bool, true, false, _&&_}
 use mathlib.Core.List.{List, [], _∷_, _++_}
-use Prim.Native.Nat.{ℕ, _<_}
+use Prim.Native.Nat.{ℕ, suc, _<_, _^_}
 use native.Mathlib.Omega.{arith}
 use lib.Bits.{bitOr}
 use lib.Dec.{T, eqb, eqb→eq}
@@ -16,6 +16,11 @@ use Rattle.bus.proofs.OfBytes.{AllBytes}
 use Rattle.as_asked.specs.Tables.{SysCtrl1, SysCtrl2, sysCtrl2, counting}
 
 -- ---- bytes
+-- a list whose every number is a byte
+pub of-bytes : (l : List ℕ) → ((i : ℕ) → getD l i 0 < 2 ^ 8) → Bytes l
+of-bytes [] h = tt
+of-bytes (x ∷ l) h = (h 0, of-bytes l (λ i. h (suc i)))
+
 checked-bytes : (before bytes : List ℕ) → Bytes (checked before bytes) → Bytes bytes
 unfolding checked
 checked-bytes before [] h = tt

@@ -27,11 +27,13 @@ use Rattle.bus.proofs.OfBytes.{AllBytes}
 use Rattle.bus.proofs.Throughout.{throughout, throughout-if}
 use Rattle.bq769x0.specs.Record.{isSound}
 use Rattle.bq769x0.specs.Registers.{soundly}
+use Rattle.bq769x0.specs.Registers as by-record
 use Rattle.bq769x0.specs.declared.BQ769x0.{BQ769x0}
 use Rattle.chip.proofs.Asks.{Asks, nothing, asks-if, asks-call}
 use Rattle.chip.proofs.Fed.{read-short, write-short}
 use Rattle.commands.specs.Registers.{readRegister, writing, changing}
-use Rattle.commands.specs.Commands.{sourceBits, modeBits}
+use Rattle.commands.specs.Commands.{enableBalancing, sysStatReset, discharge, charge, shipEnter, enableAdc, setTemperatureSource}
+use Rattle.commands.specs.Commands.{coulombCounterMode, sourceBits, modeBits}
 use Rattle.commands.specs.declared.control.TemperatureSource.{TemperatureSource}
 use Rattle.commands.specs.declared.control.TemperatureSource.the-variants as T
 use Rattle.commands.specs.declared.counter.CoulombCounterMode.{CoulombCounterMode}
@@ -83,15 +85,15 @@ source-right T.ExternalThermistor = tt
 
 -- ---- the runs
 module _ (d : BQ769x0) (tape log : List ℕ) (at : Cursor) (gave : Raw) (log′ : List ℕ) (bytes : Bytes tape) where
-  -- it kept the promise of a call that does p on a sound record
-  abbrev Promise : Prog (Answer Done) → Type 0
-  Promise p = ran (asRaw (gave .answer)) tape log′ (gave .at) ≡ onTape (soundly d (refused nine) p) (busOf tape log at)
+  -- it kept the promise to do p
+  abbrev Kept : Prog (Answer Done) → Type 0
+  Kept p = ran (asRaw (gave .answer)) tape log′ (gave .at) ≡ onTape p (busOf tape log at)
 
   abbrev Shown : (List Made → Answer Done → Type 0) → Type 0
   Shown P = Shows P tape log′ at (gave .at) (asRaw (gave .answer))
 
   by-promise : (P : List Made → Answer Done → Type 0) (p : Prog (Answer Done)) → P [] (refused nine) → Asks Short p
-      → throughout (λ y h. AllBytes h → P h y) p → Promise p → Shown P
+      → throughout (λ y h. AllBytes h → P h y) p → Kept (soundly d (refused nine) p) → Shown P
   unfolding soundly
   by-promise P p off short holds promise =
       shows P (λ (y : Answer Done). y) (soundly d (refused nine) p) (busOf tape log at) _ _ promise
@@ -100,58 +102,50 @@ module _ (d : BQ769x0) (tape log : List ℕ) (at : Cursor) (gave : Raw) (log′ 
   -- those that read their register first
   module _ {Table : Type 0} (same : Table → Table → Bool) (same-is : (x y : Table) → T (same x y) → x ≡ y)
       (table : ℕ → Table) (asked : Table → Table) (reg : ℕ) (change : ℕ → Option ℕ) where
-    changes : Rightly same table asked change → Promise (changing (d .link) reg change) → Shown (Changes table asked (d .link) reg)
+    changes : Rightly same table asked change → Kept (soundly d (refused nine) (changing (d .link) reg change)) → Shown (Changes table asked (d .link) reg)
     unfolding writes
     changes rightly =
         by-promise (Changes table asked (d .link) reg) (changing (d .link) reg change) (untouched nine refl)
         (changing-short (d .link) reg change) (changing-seen same same-is table asked (d .link) reg change rightly)
 
-  pub discharge-shows : (on : Bool) → Promise (changing (d .link) 0x05 (switching 0b0000_0010 on))
-      → Shown (Changes sysCtrl2 (withDsgOn (flag on)) (d .link) 0x05)
+  pub discharge-shows : (on : Bool) → Kept (discharge d on) → Shown (Changes sysCtrl2 (withDsgOn (flag on)) (d .link) 0x05)
   discharge-shows on = changes same05 same05-is sysCtrl2 _ 0x05 _ (discharge-right on)
 
-  pub charge-shows : (on : Bool) → Promise (changing (d .link) 0x05 (switching 0b0000_0001 on))
-      → Shown (Changes sysCtrl2 (withChgOn (flag on)) (d .link) 0x05)
+  pub charge-shows : (on : Bool) → Kept (charge d on) → Shown (Changes sysCtrl2 (withChgOn (flag on)) (d .link) 0x05)
   charge-shows on = changes same05 same05-is sysCtrl2 _ 0x05 _ (charge-right on)
 
-  pub mode-shows : (mode : CoulombCounterMode) → Promise (changing (d .link) 0x05 (putting 0b0110_0000 (modeBits mode)))
+  pub mode-shows : (mode : CoulombCounterMode) → Kept (coulombCounterMode d mode)
       → Shown (Changes sysCtrl2 (counterFields mode) (d .link) 0x05)
   mode-shows mode = changes same05 same05-is sysCtrl2 _ 0x05 _ (mode-right mode)
 
-  pub adc-shows : (on : Bool) → Promise (changing (d .link) 0x04 (putting 0b0001_0000 (placed 0b0001_0000 on)))
-      → Shown (Changes sysCtrl1 (withAdcEn (flag on)) (d .link) 0x04)
+  pub adc-shows : (on : Bool) → Kept (enableAdc d on) → Shown (Changes sysCtrl1 (withAdcEn (flag on)) (d .link) 0x04)
   adc-shows on = changes same04 same04-is sysCtrl1 _ 0x04 _ (adc-right on)
 
-  pub source-shows : (source : TemperatureSource) → Promise (changing (d .link) 0x04 (putting 0b0000_1000 (sourceBits source)))
+  pub source-shows : (source : TemperatureSource) → Kept (setTemperatureSource d source)
       → Shown (Changes sysCtrl1 (withTempSel (sourceField source)) (d .link) 0x04)
   source-shows source = changes same04 same04-is sysCtrl1 _ 0x04 _ (source-right source)
 
   -- those that write it whole
-  pub balancing-shows : (cells : ℕ) → Promise (writeRaw (d .link) 0x01 (cells ∷ [])) → Shown (InTurn (cells ∷ []) (d .link) 0x01)
+  pub balancing-shows : (cells : ℕ) → Kept (enableBalancing d cells) → Shown (InTurn (cells ∷ []) (d .link) 0x01)
+  unfolding by-record.writeRaw
   balancing-shows cells =
       by-promise (InTurn (cells ∷ []) (d .link) 0x01) _ (nothing-put (d .link) 0x01 _ nine) (write-short (d .link) 0x01 _)
       (one-seen (d .link) 0x01 cells)
 
-  pub status-shows : (flags : ℕ)
-      → Promise (if bit 6 flags then ret (refuses 18) else writeRaw (d .link) 0x00 (flags ∷ []))
-      → Shown (Resets flags (d .link))
+  pub status-shows : (flags : SysStat) → Kept (sysStatReset d flags) → Shown (Resets (flags .bits) (d .link))
   unfolding throughout writes
   status-shows flags =
-      by-promise (Resets flags (d .link)) _ (none nine) (asks-if (bit 6 flags) (λ e. nothing) (λ e. write-short (d .link) 0x00 _))
-      (throughout-if (λ y h. AllBytes h → Resets flags (d .link) h y) (bit 6 flags) _ _ (λ e ok. none (no 18 []))
-      (λ e. weaken (λ y h. AllBytes h → Resets flags (d .link) h y) (λ y h. AllBytes h → InTurn (flags ∷ []) (d .link) 0x00 h y)
-      (writeRaw (d .link) 0x00 (flags ∷ []))
+      by-promise (Resets (flags .bits) (d .link)) _ (none nine) (asks-if (bit 6 (flags .bits)) (λ e. nothing) (λ e. write-short (d .link) 0x00 _))
+      (throughout-if (λ y h. AllBytes h → Resets (flags .bits) (d .link) h y) (bit 6 (flags .bits)) _ _ (λ e ok. none (no 18 []))
+      (λ e. weaken (λ y h. AllBytes h → Resets (flags .bits) (d .link) h y) (λ y h. AllBytes h → InTurn (flags .bits ∷ []) (d .link) 0x00 h y)
+      (writeRaw (d .link) 0x00 (flags .bits ∷ []))
       (λ y h q ok. record { in-turn = q ok; reserved = λ r. absurd (true≢false (sym (eq-eqb _ 1 r) ∙ e)) })
-      (one-seen (d .link) 0x00 flags)))
+      (one-seen (d .link) 0x00 (flags .bits))))
     where
-      none : (r : Refusal) → Resets flags (d .link) [] (refused r)
+      none : (r : Refusal) → Resets (flags .bits) (d .link) [] (refused r)
       none r = record { in-turn = nothing-put (d .link) 0x00 _ r; reserved = λ e. refl }
 
-  pub ship-shows : Promise (
-      (writeRaw (d .link) 0x04 (0 ∷ []) orLeave refused) >>= λ _.
-      (writeRaw (d .link) 0x04 (1 ∷ []) orLeave refused) >>= λ _.
-      writeRaw (d .link) 0x04 (2 ∷ []))
-      → Shown (Ships (d .link))
+  pub ship-shows : Kept (shipEnter d) → Shown (Ships (d .link))
   ship-shows =
       by-promise (Ships (d .link)) _ (ships (nothing-put (d .link) 0x04 _ nine))
       (asks-call refused _ (write-short (d .link) 0x04 _) λ _. asks-call refused _ (write-short (d .link) 0x04 _) λ _. write-short (d .link) 0x04 _)

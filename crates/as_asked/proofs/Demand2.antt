@@ -22,11 +22,6 @@ use Rattle.as_asked.specs.Init.{Demand2}
 use Rattle.as_asked.proofs.Shows.{shows}
 use Rattle.as_asked.proofs.Stages.{init-seen}
 
--- a list whose every number is a byte
-pub of-bytes : (l : List ℕ) → ((i : ℕ) → getD l i 0 < 2 ^ 8) → Bytes l
-of-bytes [] h = tt
-of-bytes (x ∷ l) h = (h 0, of-bytes l (λ i. h (suc i)))
-
 module _ (d : BQ769x0) (config : Config) (tape log : List ℕ) (at : Cursor) (gave : Init) (log′ : List ℕ) where
   pub demand-2 : Bytes tape
       → ran (leaves (asInit (gave .answer)) (gave .device)) tape log′ (gave .at) ≡ onTape (initBy stepsFor d config) (busOf tape log at)

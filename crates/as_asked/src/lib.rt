@@ -12,6 +12,8 @@ use bus::link::Raw;
 use plan::Config;
 use setup::left::Init;
 
+mod registers;
+
 fn init(device: BQ769x0, config: Config, tape: &[u8], log: &mut [u8], at: Cursor) -> Init
     ensures { λ r. ⌜ Shows (Demand2 (device .link) config) (now (tape .entry)) (now (log .exit)) at (r .at) (asInit (r .answer)) ⌝ }
 {

@@ -5,7 +5,8 @@ use lib.ListN.{getD}
 use borrow.Author.Needs.{needs}
 use denote.Ref.{now}
 use Rattle.check_byte.specs.CheckByte.{Bytes}
-use Rattle.as_asked.proofs.Demand2.{of-bytes, demand-2}
+use Rattle.as_asked.proofs.Bytes.{of-bytes}
+use Rattle.as_asked.proofs.Demand2.{demand-2}
 use Rattle.as_asked.proofs.init.Statement.{statement}
 use Rattle.as_asked.proofs.init.Tie as tie
 
