@@ -17,7 +17,6 @@ use Rattle.bus.specs.Raw.{Done, readBytes}
 use Rattle.bus.specs.Shown.{Made, reads, firstOf}
 use Rattle.bus.specs.declared.link.Link.{Link}
 use Rattle.bus.proofs.Exchanges.{OfBus, ReadSeen, accepted, got, found, passed, read-seen}
-use Rattle.bus.proofs.Reading.{onBus}
 use Rattle.bus.proofs.Throughout.{throughout, throughout-call}
 use Rattle.bq769x0.specs.Record.{Left, leaves, leaving}
 use Rattle.bq769x0.specs.declared.BQ769x0.{BQ769x0}
@@ -27,17 +26,17 @@ use Rattle.as_asked.specs.Seen.{given, calibrationIn}
 module _ (link : Link) where
   -- an accepted read of some registers
   abbrev pub of : ℕ → ℕ → List ℕ → Made
-  of reg n bytes = accepted (link .check) (link .address) reg (onBus (link .check) n) bytes []
+  of reg n bytes = accepted (link .check) (link .address) reg n bytes
 
   pub given-here : (reg n : ℕ) (bytes : List ℕ) (h : List Made) → given link (of reg n bytes ∷ h) reg ≡ bytes
   given-here reg n bytes h =
-      ap (firstOf (link .address) reg) (got (link .check) (link .address) reg (onBus (link .check) n) bytes h)
+      ap (firstOf (link .address) reg) (got (link .check) (link .address) reg n bytes h)
       ∙ found (link .address) reg bytes (reads (link .check) h)
 
   pub given-behind : (reg other n : ℕ) (bytes : List ℕ) (h : List Made) → eqb reg other ≡ false
       → given link (of reg n bytes ∷ h) other ≡ given link h other
   given-behind reg other n bytes h e =
-      ap (firstOf (link .address) other) (got (link .check) (link .address) reg (onBus (link .check) n) bytes h)
+      ap (firstOf (link .address) other) (got (link .check) (link .address) reg n bytes h)
       ∙ passed (link .address) (link .address) reg other bytes (reads (link .check) h) e
 
   -- no calibration where 59 was not read

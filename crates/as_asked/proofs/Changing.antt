@@ -1,29 +1,25 @@
 -- Demand 2 of the register commands, of what their transfers show, whatever they are answered, the bytes being bytes.
 -- Assumes nothing.
-use mathlib.Core.Path.{_≡_, refl, sym, ap, ap₂, subst, _∙_}
-use mathlib.Core.Logic.{_⊎_, inl, inr, ⊎-elim}
-use mathlib.Core.Bool.{Bool, true, false, not}
+use mathlib.Core.Path.{_≡_, refl, sym, ap, subst, _∙_}
+use mathlib.Core.Logic.{_⊎_, ⊎-elim}
+use mathlib.Core.Bool.{Bool, not}
 use mathlib.Core.List.{List, [], _∷_, _++_, map, append-nil, append-assoc, map-append}
 use mathlib.Core.Option.{Option, none, some}
-use Prim.Native.Nat.{ℕ, suc, _≤_, _<_}
+use Prim.Native.Nat.{ℕ, suc, _<_}
 use native.Mathlib.Omega.{arith}
 use lib.Dec.{T}
-use lib.ListN.{length, take, getD}
-use Rattle.laws.specs.Choice.{if_then_else_}
+use lib.ListN.{take}
 use Rattle.laws.proofs.Tests.{allBelow, below}
-use Rattle.refusals.specs.Refusal.{Refusal, Answer, value, refused, nine, no}
+use Rattle.refusals.specs.Refusal.{Refusal, Answer, value, refused, nine}
 use Rattle.refusals.proofs.Values.{refused-not}
-use Rattle.bus.specs.Transfers.{Outcome, wanted}
-use Rattle.bus.specs.Programs.{Prog, ret, ask, _orLeave_, _>>=_}
+use Rattle.bus.specs.Programs.{Prog, _orLeave_, _>>=_}
 use Rattle.bus.specs.Raw.{Done, readBytes, writeRaw}
-use Rattle.bus.specs.Shown.{Made, Access, access, reads, writes}
+use Rattle.bus.specs.Shown.{Made, Access, access, writes}
 use Rattle.bus.specs.declared.link.Link.{Link}
 use Rattle.bus.proofs.Exchanges.{ReadSeen, WriteSeen, unsent, read-seen, write-seen}
-use Rattle.bus.proofs.Framed.{made}
 use Rattle.bus.proofs.OfBytes.{AllBytes}
 use Rattle.bus.proofs.Shown.{writes-append}
-use Rattle.bus.proofs.Sized.{Sized}
-use Rattle.bus.proofs.Throughout.{throughout, throughout-call, throughout-if}
+use Rattle.bus.proofs.Throughout.{throughout, throughout-call, throughout-if, throughout-weaken}
 use Rattle.bq769x0.specs.Record.{isSound}
 use Rattle.bq769x0.specs.Registers.{soundly}
 use Rattle.bq769x0.specs.declared.BQ769x0.{BQ769x0}
@@ -32,14 +28,6 @@ use Rattle.as_asked.specs.Seen.{given}
 use Rattle.as_asked.specs.Commands.{wrote, Changes, untouched, stands, changed, InTurn}
 use Rattle.as_asked.proofs.Bytes.{data-bytes, one-byte}
 use Rattle.as_asked.proofs.Calibration.{of, given-here}
-
--- what implies what, throughout
-pub weaken : {A : Type 0} (P Q : A → List Made → Type 0) (p : Prog A) → ((a : A) (h : List Made) → Q a h → P a h)
-    → throughout Q p → throughout P p
-unfolding throughout
-weaken P Q (ret a) f q = f a [] q
-weaken P Q (ask t k) f q =
-    λ o s. weaken (λ a h. P a (made t o h)) (λ a h. Q a (made t o h)) (k o) (λ a h. f a (made t o h)) (q o s)
 
 -- ---- a register read
 module _ (link : Link) (reg : ℕ) where
@@ -103,7 +91,7 @@ module _ {Table : Type 0} (same : Table → Table → Bool) (same-is : (x y : Ta
     unfolding writing throughout writes
     by-change none e = λ ok. stands was (is-given []) (same-is _ _ (is-right [] none e ok)) (then-writes [])
     by-change (some now) e =
-        weaken (λ y h. Holds y (first ∷ h)) (WriteSeen link reg (now ∷ [])) (writeRaw link reg (now ∷ [])) (by-write now e)
+        throughout-weaken (λ y h. Holds y (first ∷ h)) (WriteSeen link reg (now ∷ [])) (writeRaw link reg (now ∷ [])) (by-write now e)
         (write-seen link reg (now ∷ []) (omega arith))
 
   pub changing-seen : Rightly same table asked change → throughout Holds (changing link reg change)
@@ -142,7 +130,7 @@ module _ (link : Link) (reg : ℕ) where
 
   pub one-seen : (byte : ℕ) → throughout (λ y h. AllBytes h → InTurn (byte ∷ []) link reg h y) (writeRaw link reg (byte ∷ []))
   one-seen byte =
-      weaken _ (WriteSeen link reg (byte ∷ [])) (writeRaw link reg (byte ∷ [])) (λ y h q ok. one-turn byte y h q)
+      throughout-weaken _ (WriteSeen link reg (byte ∷ [])) (writeRaw link reg (byte ∷ [])) (λ y h q ok. one-turn byte y h q)
       (write-seen link reg (byte ∷ []) (omega arith))
 
   -- three, one after the other
@@ -187,5 +175,5 @@ module _ (link : Link) (reg : ℕ) where
         (λ x h q. throughout-call (λ y g. Turns y (h ++ g)) (WriteSeen link reg (b ∷ [])) (writeRaw link reg (b ∷ [])) refused _
         (write-seen link reg (b ∷ []) (omega arith))
         (λ r g k ok. then-one 1 b (a ∷ []) h g r (q .0) refl refl (k .0))
-        (λ z g k. weaken (λ y l. Turns y (h ++ (g ++ l))) (WriteSeen link reg (c ∷ [])) (writeRaw link reg (c ∷ []))
+        (λ z g k. throughout-weaken (λ y l. Turns y (h ++ (g ++ l))) (WriteSeen link reg (c ∷ [])) (writeRaw link reg (c ∷ []))
         (last-turn h g (q .0) (k .0)) (write-seen link reg (c ∷ []) (omega arith))))

@@ -5,26 +5,24 @@ use mathlib.Core.Path.{_≡_, refl, sym, _∙_}
 use mathlib.Core.Bool.{Bool, true, false, not, true≢false}
 use mathlib.Core.List.{List, [], _∷_}
 use mathlib.Core.Option.{Option, none, some}
-use Prim.Native.Nat.{ℕ, _<_}
-use lib.Dec.{T, eqb}
+use Prim.Native.Nat.{ℕ}
+use lib.Dec.{T}
 use borrow.Author.Tests.{eq-eqb}
-use Rattle.laws.specs.Choice.{if_then_else_}
-use Rattle.laws.proofs.Tests.{allBelow}
 use Rattle.check_byte.specs.CheckByte.{Bytes}
-use Rattle.refusals.specs.Refusal.{Refusal, Answer, value, refused, nine, no}
+use Rattle.refusals.specs.Refusal.{Refusal, Answer, refused, nine, no}
 use Rattle.units.specs.Flags.{bit}
 use Rattle.units.specs.declared.flags.SysStat.{SysStat}
 use Rattle.bits.specs.Bits.{placed, putting, switching}
 use Rattle.bus.specs.Transfers.{busOf}
-use Rattle.bus.specs.Programs.{Prog, ret, ran, onTape, _orLeave_, _>>=_}
-use Rattle.bus.specs.Raw.{Done, refuses, asRaw, writeRaw}
+use Rattle.bus.specs.Programs.{Prog, ran, onTape}
+use Rattle.bus.specs.Raw.{Done, asRaw, writeRaw}
 use Rattle.bus.specs.Shown.{Made, writes}
 use Rattle.bus.specs.declared.Cursor.{Cursor}
 use Rattle.bus.specs.declared.link.Link.{Link}
 use Rattle.bus.specs.declared.link.Raw.{Raw}
 use Rattle.bus.proofs.Decoders.{Short}
 use Rattle.bus.proofs.OfBytes.{AllBytes}
-use Rattle.bus.proofs.Throughout.{throughout, throughout-if}
+use Rattle.bus.proofs.Throughout.{throughout, throughout-if, throughout-weaken}
 use Rattle.bq769x0.specs.Record.{isSound}
 use Rattle.bq769x0.specs.Registers.{soundly}
 use Rattle.bq769x0.specs.Registers as by-record
@@ -39,10 +37,10 @@ use Rattle.commands.specs.declared.control.TemperatureSource.the-variants as T
 use Rattle.commands.specs.declared.counter.CoulombCounterMode.{CoulombCounterMode}
 use Rattle.commands.specs.declared.counter.CoulombCounterMode.the-variants as M
 use Rattle.as_asked.specs.Seen.{Shows}
-use Rattle.as_asked.specs.Tables.{SysCtrl1, SysCtrl2, sysStat, sysCtrl1, sysCtrl2, withDsgOn, withChgOn, withAdcEn, withTempSel, shutting}
+use Rattle.as_asked.specs.Tables.{sysCtrl1, sysCtrl2, withDsgOn, withChgOn, withAdcEn, withTempSel}
 use Rattle.as_asked.specs.Commands.{Changes, untouched, InTurn, Resets, Ships, flag, sourceField, counterFields}
 use Rattle.as_asked.proofs.Bytes.{same04, same04-is, same05, same05-is}
-use Rattle.as_asked.proofs.Changing.{Rightly, changing-seen, soundly-seen, nothing-put, one-seen, three-seen, weaken}
+use Rattle.as_asked.proofs.Changing.{Rightly, changing-seen, soundly-seen, nothing-put, one-seen, three-seen}
 use Rattle.as_asked.proofs.Shows.{shows}
 
 -- ---- the transfers fit their fields
@@ -137,7 +135,7 @@ module _ (d : BQ769x0) (tape log : List ℕ) (at : Cursor) (gave : Raw) (log′ 
   status-shows flags =
       by-promise (Resets (flags .bits) (d .link)) _ (none nine) (asks-if (bit 6 (flags .bits)) (λ e. nothing) (λ e. write-short (d .link) 0x00 _))
       (throughout-if (λ y h. AllBytes h → Resets (flags .bits) (d .link) h y) (bit 6 (flags .bits)) _ _ (λ e ok. none (no 18 []))
-      (λ e. weaken (λ y h. AllBytes h → Resets (flags .bits) (d .link) h y) (λ y h. AllBytes h → InTurn (flags .bits ∷ []) (d .link) 0x00 h y)
+      (λ e. throughout-weaken (λ y h. AllBytes h → Resets (flags .bits) (d .link) h y) (λ y h. AllBytes h → InTurn (flags .bits ∷ []) (d .link) 0x00 h y)
       (writeRaw (d .link) 0x00 (flags .bits ∷ []))
       (λ y h q ok. record { in-turn = q ok; reserved = λ r. absurd (true≢false (sym (eq-eqb _ 1 r) ∙ e)) })
       (one-seen (d .link) 0x00 (flags .bits))))
@@ -149,7 +147,7 @@ module _ (d : BQ769x0) (tape log : List ℕ) (at : Cursor) (gave : Raw) (log′ 
   ship-shows =
       by-promise (Ships (d .link)) _ (ships (nothing-put (d .link) 0x04 _ nine))
       (asks-call refused _ (write-short (d .link) 0x04 _) λ _. asks-call refused _ (write-short (d .link) 0x04 _) λ _. write-short (d .link) 0x04 _)
-      (weaken (λ y h. AllBytes h → Ships (d .link) h y) (λ y h. AllBytes h → InTurn (0 ∷ 1 ∷ 2 ∷ []) (d .link) 0x04 h y) _ (λ y h q ok. ships (q ok)) (three-seen (d .link) 0x04 0 1 2))
+      (throughout-weaken (λ y h. AllBytes h → Ships (d .link) h y) (λ y h. AllBytes h → InTurn (0 ∷ 1 ∷ 2 ∷ []) (d .link) 0x04 h y) _ (λ y h q ok. ships (q ok)) (three-seen (d .link) 0x04 0 1 2))
     where
       ships : {h : List Made} {y : Answer Done} → InTurn (0 ∷ 1 ∷ 2 ∷ []) (d .link) 0x04 h y → Ships (d .link) h y
       ships q = record { bytes = 0 ∷ 1 ∷ 2 ∷ []; in-turn = q; shuts = refl }

@@ -2,9 +2,8 @@
 -- transfers, and what these and the tape show is what the configuration asks for.
 -- Assumes nothing.
 use mathlib.Core.Path.{_≡_}
-use mathlib.Core.List.{List, [], _∷_}
-use Prim.Native.Nat.{ℕ, suc, _<_, _^_}
-use lib.ListN.{getD}
+use mathlib.Core.List.{List}
+use Prim.Native.Nat.{ℕ}
 use Rattle.check_byte.specs.CheckByte.{Bytes}
 use Rattle.plan.specs.Plan.{Values, asInit}
 use Rattle.plan.specs.Steps.{stepsFor}

@@ -10,7 +10,7 @@ use Rattle.bus.specs.Programs.{Prog, Ran, ran, onTape}
 use Rattle.bus.specs.Shown.{Made, shown}
 use Rattle.bus.specs.declared.Cursor.{Cursor}
 use Rattle.bus.proofs.Decoders.{Short}
-use Rattle.bus.proofs.Framed.{history}
+use Rattle.bus.proofs.Framed.{history, framed}
 use Rattle.bus.proofs.OfBytes.{AllBytes, all-bytes}
 use Rattle.bus.proofs.Shown.{shown-made}
 use Rattle.bus.proofs.Throughout.{throughout, on-history}
@@ -28,6 +28,8 @@ shows {A} P f p b a to promise short holds bytes = record {
   reads-back =
       ap (λ (r : Ran A). shown (b .tape) (r .bus .log) (b .at) (r .bus .at)) promise
       ∙ shown-made p b (all-short short b);
+  tape-used = ap (λ (r : Ran A). r .bus .at .tape) promise ∙ framed p b .tape-used;
+  log-used = ap (λ (r : Ran A). r .bus .at .log) promise ∙ framed p b .log-used;
   holds =
       subst (P (history p b)) (sym (ap (λ (r : Ran A). f (r .answer)) promise))
       (on-history (λ x h. AllBytes h → P h (f x)) p holds b (all-bytes p b bytes));

@@ -174,6 +174,7 @@ module _ (d : BQ769x0) (config : Config) (steps : InMv) (g : Given config steps)
             was = was;
             read-05 = given-05;
             six = p .regs;
+            all-six = plan-six (adc .gain) (adc .offset) config _ _ p e;
             now = bitOr was 64;
             written = writes-are;
             as-asked = as-asked (adc .gain) (adc .offset) config g gained small e;

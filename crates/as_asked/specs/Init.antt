@@ -4,6 +4,7 @@ use Prim.Native.Nat.{ℕ}
 use mathlib.Core.Path.{_≡_}
 use mathlib.Core.List.{List, [], _∷_}
 use mathlib.Core.Option.{some, bind}
+use lib.ListN.{length}
 use Rattle.refusals.specs.Refusal.{Answer, value}
 use Rattle.adc.specs.declared.transfer.AdcTransferFunction.{AdcTransferFunction}
 use Rattle.plan.specs.AsAsked.{AsAsked}
@@ -25,6 +26,7 @@ module _ (link : Link) (config : Config) (seen : List Made) where
     pub was : ℕ
     pub read-05 : given link seen 0x05 ≡ was ∷ []
     pub six : List ℕ
+    pub all-six : length six ≡ 6
     pub now : ℕ
     pub written : writes (link .check) seen ≡ access (link .address) 0x06 six ∷ access (link .address) 0x05 (now ∷ []) ∷ []
     -- by the register tables: the six are as asked, and so are the values; in 05 the counter is on, and all else as it was read

@@ -1,6 +1,6 @@
 -- What a run's own log and tape show: the bytes read of a register, and the calibration by 50, 51 and 59.
 -- Assumes nothing.
-use Prim.Native.Nat.{ℕ}
+use Prim.Native.Nat.{ℕ, _+_}
 use mathlib.Core.Path.{_≡_}
 use mathlib.Core.Bool.{_&&_}
 use mathlib.Core.List.{List}
@@ -11,7 +11,7 @@ use Rattle.laws.specs.Choice.{if_then_else_}
 use Rattle.refusals.specs.Refusal.{Answer}
 use Rattle.adc.specs.Registers.{calibration}
 use Rattle.adc.specs.declared.transfer.AdcTransferFunction.{AdcTransferFunction}
-use Rattle.bus.specs.Shown.{Made, shown, reads, firstOf}
+use Rattle.bus.specs.Shown.{Made, logged, taken, shown, reads, firstOf}
 use Rattle.bus.specs.declared.Cursor.{Cursor}
 use Rattle.bus.specs.declared.link.Link.{Link}
 
@@ -32,4 +32,7 @@ module _ (link : Link) (seen : List Made) where
 pub record Shows {A : Type 0} (P : List Made → Answer A → Type 0) (tape log′ : List ℕ) (from to : Cursor) (answer : Answer A) : Type 0 where
   pub seen : List Made
   pub reads-back : shown tape log′ from to ≡ some seen
+  -- both positions are past their fields, and no further
+  pub tape-used : to .tape ≡ from .tape + length (taken seen)
+  pub log-used : to .log ≡ from .log + length (logged seen)
   pub holds : P seen answer

@@ -84,9 +84,13 @@ pub record Silent (check : Bool) (h : List Made) : Type 0 where
   pub unwritten : writes check h ≡ []
   pub unread : (address reg : ℕ) → firstOf address reg (reads check h) ≡ []
 
+-- an accepted read of n registers
+abbrev pub accepted : Bool → ℕ → ℕ → ℕ → List ℕ → Made
+accepted check address reg n bytes = (read address reg (onBus check n), done (readFrame check address bytes))
+
 abbrev pub ReadSeen : Bool → ℕ → ℕ → ℕ → Answer (List ℕ) → List Made → Type 0
 ReadSeen check address reg n (value bytes) h =
-    (h ≡ (read address reg (onBus check n), done (readFrame check address bytes)) ∷ []) × (length bytes ≡ n)
+    (h ≡ accepted check address reg n bytes ∷ []) × (length bytes ≡ n)
 ReadSeen check address reg n (refused r) h = Silent check h × OfBus r
 
 nothing-made : (check : Bool) → Silent check []
@@ -197,16 +201,13 @@ passed address another reg other bytes more e = rw e (by (eqb address another))
     by true = refl
     by false = refl
 
--- an accepted read, among what was read and written
+-- among what was read and written
 module _ (check : Bool) (address reg n : ℕ) (bytes : List ℕ) (h : List Made) where
-  abbrev pub accepted : Made
-  accepted = (read address reg n, done (readFrame check address bytes))
-
-  pub got : reads check (accepted ∷ h) ≡ access address reg bytes ∷ reads check h
+  pub got : reads check (accepted check address reg n bytes ∷ h) ≡ access address reg bytes ∷ reads check h
   unfolding reads gotBy readFrame
   got = ap (λ (l : List ℕ). access address reg l ∷ reads check h) (carried-framed check (readByte address ∷ []) bytes)
 
-  pub unsent : writes check (accepted ∷ h) ≡ writes check h
+  pub unsent : writes check (accepted check address reg n bytes ∷ h) ≡ writes check h
   unfolding writes sentBy
   unsent = refl
 

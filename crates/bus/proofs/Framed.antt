@@ -14,7 +14,7 @@ use Rattle.frames.proofs.Put.{put-none, length-put, put-put, take-before, take-
 use Rattle.bus.specs.Transfers.{Transfer, Outcome, done, fault, stopped, Bus}
 use Rattle.bus.specs.Transfers.{logField, tapeField, moved, after, outcome}
 use Rattle.bus.specs.Programs.{Prog, ret, ask, Ran, onTape}
-use Rattle.bus.specs.Shown.{Made}
+use Rattle.bus.specs.Shown.{Made, logged, taken}
 use Rattle.bus.proofs.Order.{by-room}
 
 -- a stopped transfer was not made
@@ -27,15 +27,6 @@ made t (stopped r) h = h
 unfoldable pub history : {A : Type 0} → Prog A → Bus → List Made
 history (ret a) b = []
 history (ask t k) b = made t (outcome t b) (history (k (outcome t b)) (after t (outcome t b) b))
-
--- their fields in the log, and on the tape
-unfoldable pub logged : List Made → List ℕ
-logged [] = []
-logged (m ∷ h) = logField (m .0) ++ logged h
-
-unfoldable pub taken : List Made → List ℕ
-taken [] = []
-taken (m ∷ h) = tapeField (m .1) ++ taken h
 
 -- the log has room for these bytes
 abbrev pub Room : Bus → List ℕ → Type 0

@@ -52,17 +52,6 @@ module _ (s : Link) (reg : ℕ) (buf : List ℕ) (b : Bus) (ok : sound s ≡ tru
         by-outcome o
         ∙ rw (all, right-checked before bytes, data-checked before bytes, put-all buf bytes (omega (arith, same)))
 
-    -- with checks, a frame with a wrong check byte is never accepted
-    pub wrong-refused : (frame : List ℕ) → length frame ≡ 2 * length buf
-        → outcome (read (s .address) reg (2 * length buf)) b ≡ done frame
-        → right (readByte (s .address) ∷ []) frame ≡ false
-        → onTape (readRaw s reg buf) b .answer ≡ gives (refuses 1) buf
-    unfolding checkedly received whereRight
-    wrong-refused frame same o wrong =
-        let all = put-all (replicate (2 * length buf) 0) frame
-        (omega (arith, length-replicate {A = ℕ} (2 * length buf) 0)) in
-        by-outcome o ∙ rw (all, wrong)
-
   -- without checks, a fault has stored just the bytes delivered
   pub delivered-stored : s .check ≡ false → (bytes : List ℕ)
       → outcome (read (s .address) reg (length buf)) b ≡ fault bytes

@@ -15,9 +15,9 @@ use Rattle.bus.specs.Transfers.{Transfer, Outcome, done, fault, stopped,
 use Rattle.bus.specs.Transfers.{moved, after, outcome}
 use Rattle.bus.specs.Programs.{Prog, ret, ask, onTape}
 use Rattle.bus.specs.Decoders.{transfersIn}
-use Rattle.bus.specs.Shown.{Made, withTape, shown, reads, writes}
+use Rattle.bus.specs.Shown.{Made, withTape, shown, reads, writes, logged}
 use Rattle.bus.proofs.Order.{by-room}
-use Rattle.bus.proofs.Framed.{made, history, logged, Framed, framed, log-now}
+use Rattle.bus.proofs.Framed.{made, history, Framed, framed, log-now}
 use Rattle.bus.proofs.Decoders.{AllShort, transfers-logged}
 
 -- what was made is what the tape said

@@ -22,6 +22,14 @@ on-history P (ret a) h b = h
 on-history P (ask t k) h b =
     on-history (λ a h. P a (made t (outcome t b) h)) (k (outcome t b)) (h (outcome t b) (sized t b)) (after t (outcome t b) b)
 
+-- what holds so, and what follows from it
+pub throughout-weaken : {A : Type 0} (P Q : A → List Made → Type 0) (p : Prog A) → ((a : A) (h : List Made) → Q a h → P a h)
+    → throughout Q p → throughout P p
+unfolding throughout
+throughout-weaken P Q (ret a) f q = f a [] q
+throughout-weaken P Q (ask t k) f q =
+    λ o s. throughout-weaken (λ a h. P a (made t o h)) (λ a h. Q a (made t o h)) (k o) (λ a h. f a (made t o h)) (q o s)
+
 module _ {A B : Type 0} (f : A → Prog B) where
   -- after a program of which Q holds
   abbrev Then : (B → List Made → Type 0) → (A → List Made → Type 0) → Type 0

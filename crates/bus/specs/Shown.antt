@@ -9,13 +9,22 @@ use lib.ListN.{length, take, drop}
 use lib.Dec.{eqb}
 use Rattle.laws.specs.Choice.{if_then_else_}
 use Rattle.frames.specs.Frames.{writeByte, readByte, right, dataOf}
-use Rattle.bus.specs.Transfers.{Transfer, write, read, Outcome, done, fault, stopped, tapeField, wanted, says}
+use Rattle.bus.specs.Transfers.{Transfer, write, read, Outcome, done, fault, stopped, logField, tapeField, wanted, says}
 use Rattle.bus.specs.Decoders.{transfersIn}
 use Rattle.bus.specs.declared.Cursor.{Cursor}
 
 -- a transfer made, and how it went
 abbrev pub Made : Type 0
 Made = Transfer × Outcome
+
+-- their fields in the log, and on the tape
+unfoldable pub logged : List Made → List ℕ
+logged [] = []
+logged (m ∷ h) = logField (m .0) ++ logged h
+
+unfoldable pub taken : List Made → List ℕ
+taken [] = []
+taken (m ∷ h) = tapeField (m .1) ++ taken h
 
 -- each transfer with what the tape, from here on, says to it
 unfoldable pub withTape : List Transfer → List ℕ → List Made
