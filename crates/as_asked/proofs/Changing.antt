@@ -25,7 +25,7 @@ use Rattle.bq769x0.specs.Registers.{soundly}
 use Rattle.bq769x0.specs.declared.BQ769x0.{BQ769x0}
 use Rattle.commands.specs.Registers.{readRegister, writing, changing}
 use Rattle.as_asked.specs.Seen.{given}
-use Rattle.as_asked.specs.Commands.{wrote, Changes, untouched, stands, changed, InTurn}
+use Rattle.as_asked.specs.Commands.{wrote, Changes, untouched, stands, changed, Becomes}
 use Rattle.as_asked.proofs.Bytes.{data-bytes, one-byte}
 use Rattle.as_asked.proofs.Calibration.{of, given-here}
 
@@ -109,26 +109,29 @@ unfolding soundly throughout
 soundly-seen d P p off on = throughout-if (λ y h. AllBytes h → P h y) (not (isSound d)) _ _ (λ e ok. off) (λ e. on)
 
 -- ---- a register written whole
-module _ (link : Link) (reg : ℕ) where
+module _ (link : Link) (reg : ℕ) {Table : Type 0} (table : ℕ → Table) where
   abbrev put : ℕ → Access
   put byte = access (link .address) reg (byte ∷ [])
 
+  abbrev Of : List ℕ → List Made → Answer Done → Type 0
+  Of bytes h y = Becomes table (map table bytes) link reg h y
+
   -- so many of the bytes were written
   turn : (bytes : List ℕ) (n : ℕ) {h : List Made} {y : Answer Done} → writes (link .check) h ≡ map put (take n bytes)
-      → (y ≡ value tt → take n bytes ≡ bytes) → InTurn bytes link reg h y
-  turn bytes n w all = record { count = n; written = w; all = all }
+      → (y ≡ value tt → take n bytes ≡ bytes) → Of bytes h y
+  turn bytes n w all = record { bytes = bytes; tables = refl; count = n; written = w; all = all }
 
-  one-turn : (byte : ℕ) (y : Answer Done) (h : List Made) → WriteSeen link reg (byte ∷ []) y h → InTurn (byte ∷ []) link reg h y
+  pub nothing-put : (bytes : List ℕ) (r : Refusal) → Of bytes [] (refused r)
+  unfolding writes
+  nothing-put bytes r = turn bytes 0 refl (λ e. refused-not e)
+
+  one-turn : (byte : ℕ) (y : Answer Done) (h : List Made) → WriteSeen link reg (byte ∷ []) y h → Of (byte ∷ []) h y
   one-turn byte (value x) h q = turn (byte ∷ []) 1 (q .0) (λ e. refl)
   one-turn byte (refused r) h q =
       ⊎-elim (λ (w : writes (link .check) h ≡ []). turn (byte ∷ []) 0 w (λ e. refused-not e))
       (λ (w : writes (link .check) h ≡ put byte ∷ []). turn (byte ∷ []) 1 w (λ e. refused-not e)) (q .0)
 
-  pub nothing-put : (bytes : List ℕ) (r : Refusal) → InTurn bytes link reg [] (refused r)
-  unfolding writes
-  nothing-put bytes r = turn bytes 0 refl (λ e. refused-not e)
-
-  pub one-seen : (byte : ℕ) → throughout (λ y h. AllBytes h → InTurn (byte ∷ []) link reg h y) (writeRaw link reg (byte ∷ []))
+  pub one-seen : (byte : ℕ) → throughout (λ y h. AllBytes h → Of (byte ∷ []) h y) (writeRaw link reg (byte ∷ []))
   one-seen byte =
       throughout-weaken _ (WriteSeen link reg (byte ∷ [])) (writeRaw link reg (byte ∷ [])) (λ y h q ok. one-turn byte y h q)
       (write-seen link reg (byte ∷ []) (omega arith))
@@ -139,19 +142,20 @@ module _ (link : Link) (reg : ℕ) where
     abc = a ∷ b ∷ c ∷ []
 
     -- those before it, and then this one or not
-    then-one : (n : ℕ) (byte : ℕ) (before : List ℕ) (h g : List Made) (r : Refusal)
+    then-one : (n byte : ℕ) (before : List ℕ) (h g : List Made) (r : Refusal)
         → writes (link .check) h ≡ map put before → take n abc ≡ before → take (suc n) abc ≡ before ++ byte ∷ []
-        → (writes (link .check) g ≡ []) ⊎ (writes (link .check) g ≡ put byte ∷ []) → InTurn abc link reg (h ++ g) (refused r)
+        → (writes (link .check) g ≡ []) ⊎ (writes (link .check) g ≡ put byte ∷ []) → Of abc (h ++ g) (refused r)
     then-one n byte before h g r w here more q =
         ⊎-elim
         (λ (v : writes (link .check) g ≡ []). turn abc n
         (writes-append (link .check) h g ∙ rw (w, v, append-nil) (ap (map put) (sym here))) (λ e. refused-not e))
         (λ (v : writes (link .check) g ≡ put byte ∷ []). turn abc (suc n)
-        (writes-append (link .check) h g ∙ rw (w, v) (sym (map-append put before (byte ∷ [])) ∙ ap (map put) (sym more))) (λ e. refused-not e))
+        (writes-append (link .check) h g ∙ rw (w, v) (sym (map-append put before (byte ∷ [])) ∙ ap (map put) (sym more)))
+        (λ e. refused-not e))
         q
 
     abbrev Turns : Answer Done → List Made → Type 0
-    Turns y h = AllBytes h → InTurn abc link reg h y
+    Turns y h = AllBytes h → Of abc h y
 
     module _ (h g : List Made) (first : writes (link .check) h ≡ put a ∷ []) (second : writes (link .check) g ≡ put b ∷ []) where
       two-put : writes (link .check) (h ++ g) ≡ put a ∷ put b ∷ []
@@ -159,9 +163,11 @@ module _ (link : Link) (reg : ℕ) where
 
       last-turn : (y : Answer Done) (l : List Made) → WriteSeen link reg (c ∷ []) y l → Turns y (h ++ (g ++ l))
       last-turn (value x) l q ok =
-          turn abc 3 (ap (writes (link .check)) (sym (append-assoc h g l)) ∙ writes-append (link .check) (h ++ g) l ∙ rw (two-put, q .0)) (λ e. refl)
+          turn abc 3
+          (ap (writes (link .check)) (sym (append-assoc h g l)) ∙ writes-append (link .check) (h ++ g) l ∙ rw (two-put, q .0))
+          (λ e. refl)
       last-turn (refused r) l q ok =
-          subst (λ (k : List Made). InTurn abc link reg k (refused r)) (append-assoc h g l)
+          subst (λ (k : List Made). Of abc k (refused r)) (append-assoc h g l)
           (then-one 2 c (a ∷ b ∷ []) (h ++ g) l r two-put refl refl (q .0))
 
     pub three-seen : throughout Turns (

@@ -37,8 +37,8 @@ use Rattle.commands.specs.declared.control.TemperatureSource.the-variants as T
 use Rattle.commands.specs.declared.counter.CoulombCounterMode.{CoulombCounterMode}
 use Rattle.commands.specs.declared.counter.CoulombCounterMode.the-variants as M
 use Rattle.as_asked.specs.Seen.{Shows}
-use Rattle.as_asked.specs.Tables.{sysCtrl1, sysCtrl2, withDsgOn, withChgOn, withAdcEn, withTempSel}
-use Rattle.as_asked.specs.Commands.{Changes, untouched, InTurn, Resets, Ships, flag, sourceField, counterFields}
+use Rattle.as_asked.specs.Tables.{cellBal1, sysStat, sysCtrl1, sysCtrl2, withDsgOn, withChgOn, withAdcEn, withTempSel}
+use Rattle.as_asked.specs.Commands.{Changes, untouched, Becomes, Resets, shutDown, flag, sourceField, counterFields}
 use Rattle.as_asked.proofs.Bytes.{same04, same04-is, same05, same05-is}
 use Rattle.as_asked.proofs.Changing.{Rightly, changing-seen, soundly-seen, nothing-put, one-seen, three-seen}
 use Rattle.as_asked.proofs.Shows.{shows}
@@ -124,30 +124,34 @@ module _ (d : BQ769x0) (tape log : List ℕ) (at : Cursor) (gave : Raw) (log′ 
   source-shows source = changes same04 same04-is sysCtrl1 _ 0x04 _ (source-right source)
 
   -- those that write it whole
-  pub balancing-shows : (cells : ℕ) → Kept (enableBalancing d cells) → Shown (InTurn (cells ∷ []) (d .link) 0x01)
+  pub balancing-shows : (cells : ℕ) → Kept (enableBalancing d cells) → Shown (Becomes cellBal1 (cellBal1 cells ∷ []) (d .link) 0x01)
   unfolding by-record.writeRaw
   balancing-shows cells =
-      by-promise (InTurn (cells ∷ []) (d .link) 0x01) _ (nothing-put (d .link) 0x01 _ nine) (write-short (d .link) 0x01 _)
-      (one-seen (d .link) 0x01 cells)
+      by-promise (Becomes cellBal1 (cellBal1 cells ∷ []) (d .link) 0x01) _ (nothing-put (d .link) 0x01 cellBal1 (cells ∷ []) nine)
+      (write-short (d .link) 0x01 _) (one-seen (d .link) 0x01 cellBal1 cells)
 
   pub status-shows : (flags : SysStat) → Kept (sysStatReset d flags) → Shown (Resets (flags .bits) (d .link))
   unfolding throughout writes
   status-shows flags =
-      by-promise (Resets (flags .bits) (d .link)) _ (none nine) (asks-if (bit 6 (flags .bits)) (λ e. nothing) (λ e. write-short (d .link) 0x00 _))
-      (throughout-if (λ y h. AllBytes h → Resets (flags .bits) (d .link) h y) (bit 6 (flags .bits)) _ _ (λ e ok. none (no 18 []))
-      (λ e. throughout-weaken (λ y h. AllBytes h → Resets (flags .bits) (d .link) h y) (λ y h. AllBytes h → InTurn (flags .bits ∷ []) (d .link) 0x00 h y)
-      (writeRaw (d .link) 0x00 (flags .bits ∷ []))
-      (λ y h q ok. record { in-turn = q ok; reserved = λ r. absurd (true≢false (sym (eq-eqb _ 1 r) ∙ e)) })
-      (one-seen (d .link) 0x00 (flags .bits))))
+      by-promise P _ (none nine) (asks-if (bit 6 byte) (λ e. nothing) (λ e. write-short (d .link) 0x00 _))
+      (throughout-if (λ y h. AllBytes h → P h y) (bit 6 byte) _ _ (λ e ok. none (no 18 []))
+      (λ e. throughout-weaken (λ y h. AllBytes h → P h y)
+      (λ y h. AllBytes h → Becomes sysStat (sysStat byte ∷ []) (d .link) 0x00 h y) (writeRaw (d .link) 0x00 (byte ∷ []))
+      (λ y h q ok. record { becomes = q ok; reserved = λ r. absurd (true≢false (sym (eq-eqb _ 1 r) ∙ e)) })
+      (one-seen (d .link) 0x00 sysStat byte)))
     where
-      none : (r : Refusal) → Resets (flags .bits) (d .link) [] (refused r)
-      none r = record { in-turn = nothing-put (d .link) 0x00 _ r; reserved = λ e. refl }
+      byte : ℕ
+      byte = flags .bits
 
-  pub ship-shows : Kept (shipEnter d) → Shown (Ships (d .link))
+      P : List Made → Answer Done → Type 0
+      P = Resets byte (d .link)
+
+      none : (r : Refusal) → P [] (refused r)
+      none r = record { becomes = nothing-put (d .link) 0x00 sysStat (byte ∷ []) r; reserved = λ e. refl }
+
+  pub ship-shows : Kept (shipEnter d) → Shown (Becomes sysCtrl1 shutDown (d .link) 0x04)
   ship-shows =
-      by-promise (Ships (d .link)) _ (ships (nothing-put (d .link) 0x04 _ nine))
-      (asks-call refused _ (write-short (d .link) 0x04 _) λ _. asks-call refused _ (write-short (d .link) 0x04 _) λ _. write-short (d .link) 0x04 _)
-      (throughout-weaken (λ y h. AllBytes h → Ships (d .link) h y) (λ y h. AllBytes h → InTurn (0 ∷ 1 ∷ 2 ∷ []) (d .link) 0x04 h y) _ (λ y h q ok. ships (q ok)) (three-seen (d .link) 0x04 0 1 2))
-    where
-      ships : {h : List Made} {y : Answer Done} → InTurn (0 ∷ 1 ∷ 2 ∷ []) (d .link) 0x04 h y → Ships (d .link) h y
-      ships q = record { bytes = 0 ∷ 1 ∷ 2 ∷ []; in-turn = q; shuts = refl }
+      by-promise (Becomes sysCtrl1 shutDown (d .link) 0x04) _ (nothing-put (d .link) 0x04 sysCtrl1 (0 ∷ 1 ∷ 2 ∷ []) nine)
+      (asks-call refused _ (write-short (d .link) 0x04 _) λ _.
+      asks-call refused _ (write-short (d .link) 0x04 _) λ _. write-short (d .link) 0x04 _)
+      (three-seen (d .link) 0x04 sysCtrl1 0 1 2)

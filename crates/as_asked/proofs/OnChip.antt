@@ -21,10 +21,14 @@ use Rattle.plan.specs.Steps.{InMv, stepsFor}
 use Rattle.plan.specs.declared.Config.{Config}
 use Rattle.plan.proofs.AsAsked.{given, as-asked}
 use Rattle.plan.proofs.Six.{plan-six}
-use Rattle.bq769x0.specs.Record.{Left, leaving, isSound}
+use Rattle.bus.specs.Transfers.{busOf}
+use Rattle.bus.specs.Programs.{ran, onTape}
+use Rattle.bus.specs.declared.Cursor.{Cursor}
+use Rattle.bq769x0.specs.Record.{Left, leaves, leaving, isSound}
 use Rattle.bq769x0.specs.Registers.{soundly}
 use Rattle.bq769x0.specs.declared.BQ769x0.{BQ769x0}
 use Rattle.procedure.specs.Init.{initBy}
+use Rattle.setup.specs.declared.left.Init.{Init}
 use Rattle.chip.specs.Chip.{withRegs, held}
 use Rattle.chip.specs.Devices.{Reached, onDevice}
 use Rattle.chip.specs.OnChip.{Matches, Wired, uncut, onChip}
@@ -40,7 +44,7 @@ use Rattle.recovery.proofs.Asked.{init-fine}
 use Rattle.recovery.proofs.ByLog.{as-on-chip, left-by-log}
 use Rattle.recovery.proofs.Whole.{ends, whole}
 use Rattle.as_asked.specs.Tables.{sysCtrl2}
-use Rattle.as_asked.specs.OnChip.{SetOnChip}
+use Rattle.as_asked.specs.OnChip.{SetOnChip, SetOnEveryChip}
 use Rattle.as_asked.proofs.Bytes.{counter-on}
 
 -- ---- the registers with six new ones from 06 on, and bit 6 of 05 set
@@ -155,3 +159,22 @@ module _ {config : Config} {d : BQ769x0} {w : Wired} (run : Run stepsFor config 
   set-on-chip =
       by-plan (stepsFor config) refl (planOn stepsFor config c) refl (whole stepsFor config d c sound m)
       (sym answered ∙ ap (λ (l : Left Values). l .answer) (same .answer))
+
+-- so of a call that kept its promise
+module _ (d : BQ769x0) (config : Config) (tape log : List ℕ) (at : Cursor) (gave : Init) (log′ : List ℕ) where
+  pub on-every-chip : ran (leaves (asInit (gave .answer)) (gave .device)) tape log′ (gave .at)
+      ≡ onTape (initBy stepsFor d config) (busOf tape log at)
+      → SetOnEveryChip d config tape log at gave log′
+  on-every-chip promise w rest v m bytes answers room accepted =
+      let run : Run stepsFor config d w = record {
+        tape = tape;
+        log = log;
+        at = at;
+        rest = rest;
+        answers = answers;
+        room = room;
+        gave = gave;
+        log′ = log′;
+        promise = promise;
+      } in
+      (run, refl, refl, set-on-chip run m bytes v accepted)

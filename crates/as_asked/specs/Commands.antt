@@ -14,7 +14,7 @@ use Rattle.commands.specs.declared.control.TemperatureSource.the-variants as T
 use Rattle.commands.specs.declared.counter.CoulombCounterMode.{CoulombCounterMode}
 use Rattle.commands.specs.declared.counter.CoulombCounterMode.the-variants as M
 use Rattle.as_asked.specs.Seen.{given}
-use Rattle.as_asked.specs.Tables.{SysCtrl2, sysStat, sysCtrl1, withCounter, shutting}
+use Rattle.as_asked.specs.Tables.{SysCtrl1, SysCtrl2, sysStat, withCounter, shutting}
 
 -- the one register that a run wrote, and its byte
 abbrev pub wrote : Link → ℕ → ℕ → List Access
@@ -32,22 +32,24 @@ module _ {Table : Type 0} (table : ℕ → Table) (asked : Table → Table) (lin
     changed : (was now : ℕ) → given link seen reg ≡ was ∷ [] → table now ≡ asked (table was)
         → writes (link .check) seen ≡ wrote link reg now → (y : Answer Done) → Changes y
 
--- ---- a command that writes its register whole, once or more: the first of these bytes, in order, and all where it is accepted
-pub record InTurn (bytes : List ℕ) (link : Link) (reg : ℕ) (seen : List Made) (y : Answer Done) : Type 0 where
-  pub count : ℕ
-  pub written : writes (link .check) seen ≡ map (λ (byte : ℕ). access (link .address) reg (byte ∷ [])) (take count bytes)
-  pub all : y ≡ value tt → take count bytes ≡ bytes
+-- ---- a command that writes its register whole, once or more: by its table, what it becomes, in order
+module _ {Table : Type 0} (table : ℕ → Table) (asked : List Table) (link : Link) (reg : ℕ) (seen : List Made) where
+  pub record Becomes (y : Answer Done) : Type 0 where
+    pub bytes : List ℕ
+    pub tables : map table bytes ≡ asked
+    -- the first of these bytes, in order, and all where it is accepted, and nothing else
+    pub count : ℕ
+    pub written : writes (link .check) seen ≡ map (λ (byte : ℕ). access (link .address) reg (byte ∷ [])) (take count bytes)
+    pub all : y ≡ value tt → take count bytes ≡ bytes
 
--- status: the flags given, each flag that is 1 being cleared by the chip; nothing is written where the reserved bit is set
+-- status: each flag given is written as 1, which clears it; nothing is written where the reserved bit is among them
 pub record Resets (flags : ℕ) (link : Link) (seen : List Made) (y : Answer Done) : Type 0 where
-  pub in-turn : InTurn (flags ∷ []) link 0x00 seen y
+  pub becomes : Becomes sysStat (sysStat flags ∷ []) link 0x00 seen y
   pub reserved : sysStat flags .reserved ≡ 1 → writes (link .check) seen ≡ []
 
--- ship mode: SHUT_A and SHUT_B go 0 0, 0 1, 1 0, with every other field 0
-pub record Ships (link : Link) (seen : List Made) (y : Answer Done) : Type 0 where
-  pub bytes : List ℕ
-  pub in-turn : InTurn bytes link 0x04 seen y
-  pub shuts : map sysCtrl1 bytes ≡ shutting 0 0 ∷ shutting 0 1 ∷ shutting 1 0 ∷ []
+-- ship mode: SHUT_A and SHUT_B are 0 0, then 0 1, then 1 0, and every other field is 0
+abbrev pub shutDown : List SysCtrl1
+shutDown = shutting 0 0 ∷ shutting 0 1 ∷ shutting 1 0 ∷ []
 
 -- ---- what is asked, as a field's value
 abbrev pub flag : Bool → ℕ

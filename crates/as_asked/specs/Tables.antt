@@ -26,13 +26,24 @@ sysStat byte = record {
   ocd = field 0 0 byte;
 }
 
--- 01: which of cells 5 to 1 are balanced, a bit each
+-- 01: which of cells 5 to 1 are balanced
 pub record CellBal1 : Type 0 where
   pub reserved : ℕ
-  pub cells : ℕ
+  pub cb5 : ℕ
+  pub cb4 : ℕ
+  pub cb3 : ℕ
+  pub cb2 : ℕ
+  pub cb1 : ℕ
 
 abbrev pub cellBal1 : ℕ → CellBal1
-cellBal1 byte = record { reserved = field 7 5 byte; cells = field 4 0 byte }
+cellBal1 byte = record {
+  reserved = field 7 5 byte;
+  cb5 = field 4 4 byte;
+  cb4 = field 3 3 byte;
+  cb3 = field 2 2 byte;
+  cb2 = field 1 1 byte;
+  cb1 = field 0 0 byte;
+}
 
 -- 04: a load is there; the converter runs; 1 the thermistor, 0 the die; and the two bits that shut the chip down
 pub record SysCtrl1 : Type 0 where

@@ -4,6 +4,7 @@
 ghost use Rattle.plan.specs.Plan.{asInit};
 ghost use Rattle.as_asked.specs.Seen.{Shows};
 ghost use Rattle.as_asked.specs.Init.{Demand2};
+ghost use Rattle.as_asked.specs.OnChip.{SetOnEveryChip};
 ghost use Rattle.as_asked.specs.Reading.{ExactlyRead};
 use bq769x0::BQ769x0;
 use bus::Cursor;
@@ -16,6 +17,13 @@ mod registers;
 
 fn init(device: BQ769x0, config: Config, tape: &[u8], log: &mut [u8], at: Cursor) -> Init
     ensures { λ r. ⌜ Shows (Demand2 (device .link) config) (now (tape .entry)) (now (log .exit)) at (r .at) (asInit (r .answer)) ⌝ }
+{
+    setup::init(device, config, tape, log, at)
+}
+
+// The same call, on the model chip.
+fn init_on_chip(device: BQ769x0, config: Config, tape: &[u8], log: &mut [u8], at: Cursor) -> Init
+    ensures { λ r. ⌜ SetOnEveryChip device config (now (tape .entry)) (now (log .entry)) at r (now (log .exit)) ⌝ }
 {
     setup::init(device, config, tape, log, at)
 }

@@ -2,8 +2,8 @@
 ghost use mathlib.Core.List.{[], _∷_};
 ghost use Rattle.bus.specs.Raw.{asRaw};
 ghost use Rattle.as_asked.specs.Seen.{Shows};
-ghost use Rattle.as_asked.specs.Tables.{sysCtrl1, sysCtrl2, withDsgOn, withChgOn, withAdcEn, withTempSel};
-ghost use Rattle.as_asked.specs.Commands.{Changes, InTurn, Resets, Ships, flag, sourceField, counterFields};
+ghost use Rattle.as_asked.specs.Tables.{cellBal1, sysCtrl1, sysCtrl2, withDsgOn, withChgOn, withAdcEn, withTempSel};
+ghost use Rattle.as_asked.specs.Commands.{Changes, Becomes, Resets, shutDown, flag, sourceField, counterFields};
 use bq769x0::BQ769x0;
 use bus::Cursor;
 use bus::link::Raw;
@@ -65,7 +65,7 @@ fn set_temperature_source(
 }
 
 fn enable_balancing(device: BQ769x0, cells: u8, tape: &[u8], log: &mut [u8], at: Cursor) -> Raw
-    ensures { λ r. ⌜ Shows (InTurn (cells ∷ []) (device .link) 0x01)
+    ensures { λ r. ⌜ Shows (Becomes cellBal1 (cellBal1 cells ∷ []) (device .link) 0x01)
         (now (tape .entry)) (now (log .exit)) at (r .at) (asRaw (r .answer)) ⌝ }
 {
     balancing::enable_balancing(device, cells, tape, log, at)
@@ -79,7 +79,8 @@ fn sys_stat_reset(device: BQ769x0, flags: SysStat, tape: &[u8], log: &mut [u8], 
 }
 
 fn ship_enter(device: BQ769x0, tape: &[u8], log: &mut [u8], at: Cursor) -> Raw
-    ensures { λ r. ⌜ Shows (Ships (device .link)) (now (tape .entry)) (now (log .exit)) at (r .at) (asRaw (r .answer)) ⌝ }
+    ensures { λ r. ⌜ Shows (Becomes sysCtrl1 shutDown (device .link) 0x04)
+        (now (tape .entry)) (now (log .exit)) at (r .at) (asRaw (r .answer)) ⌝ }
 {
     ship::ship_enter(device, tape, log, at)
 }
