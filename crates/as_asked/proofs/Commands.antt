@@ -100,7 +100,8 @@ module _ (d : BQ769x0) (tape log : List ℕ) (at : Cursor) (gave : Raw) (log′ 
   -- those that read their register first
   module _ {Table : Type 0} (same : Table → Table → Bool) (same-is : (x y : Table) → T (same x y) → x ≡ y)
       (table : ℕ → Table) (asked : Table → Table) (reg : ℕ) (change : ℕ → Option ℕ) where
-    changes : Rightly same table asked change → Kept (soundly d (refused nine) (changing (d .link) reg change)) → Shown (Changes table asked (d .link) reg)
+    changes : Rightly same table asked change → Kept (soundly d (refused nine) (changing (d .link) reg change))
+        → Shown (Changes table asked (d .link) reg)
     unfolding writes
     changes rightly =
         by-promise (Changes table asked (d .link) reg) (changing (d .link) reg change) (untouched nine refl)

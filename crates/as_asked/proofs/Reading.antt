@@ -5,14 +5,14 @@ use mathlib.Core.Path.{_≡_, sym, ap, subst, _∙_}
 use mathlib.Core.Bool.{Bool, true, false}
 use mathlib.Core.List.{List, [], _∷_}
 use mathlib.Core.Option.{some}
-use Prim.Native.Nat.{ℕ}
+use Prim.Native.Nat.{ℕ, _≤_}
 use native.Mathlib.Omega.{arith}
 use lib.ListN.{length}
 use Rattle.refusals.specs.Refusal.{Answer, value, answering}
 use Rattle.frames.specs.Frames.{readFrame}
 use Rattle.frames.proofs.Frames.{length-readFrame}
 use Rattle.bus.specs.Transfers.{read, done, Bus, busOf}
-use Rattle.bus.specs.Programs.{Ran, ran, onTape}
+use Rattle.bus.specs.Programs.{Prog, Ran, ran, onTape}
 use Rattle.bus.specs.Raw.{Done, Read, gives, asRaw, readRaw}
 use Rattle.bus.specs.Shown.{shown}
 use Rattle.bus.specs.declared.Cursor.{Cursor}
@@ -40,15 +40,22 @@ module _ (link : Link) (reg : ℕ) (buf tape log : List ℕ) (at : Cursor) (gave
   same-size : length bytes ≡ length buf
   same-size = ap (λ (r : Ran Read). length (r .answer .bytes)) promise ∙ read-size link reg buf b
 
+  abbrev p : Prog Read
+  p = readRaw link reg buf
+
+  -- by what it answered
+  abbrev Seen : Answer (List ℕ) → Type 0
+  Seen y = ReadSeen (link .check) (link .address) reg (length buf) y (history p b)
+
+  seen : 1 ≤ length bytes → Seen (given (onTape p b .answer))
+  seen few = on-history _ p (raw-seen link reg buf (omega (arith, same-size))) b
+
   pub exactly-read : ExactlyRead link reg tape at gave log′ bytes
-  exactly-read accepted some-bytes =
-      let seen : ReadSeen (link .check) (link .address) reg (length buf) (given (onTape (readRaw link reg buf) b .answer)) (history (readRaw link reg buf) b) =
-      on-history _ (readRaw link reg buf) (raw-seen link reg buf (omega (arith, same-size))) b in
-      let is : given (onTape (readRaw link reg buf) b .answer) ≡ value bytes =
+  exactly-read accepted few =
+      let is : given (onTape p b .answer) ≡ value bytes =
       sym (ap (λ (r : Ran Read). given (r .answer)) promise) ∙ ap (λ (a : Answer Done). answering a bytes) accepted in
-      let made = subst (λ (y : Answer (List ℕ)). ReadSeen (link .check) (link .address) reg (length buf) y (history (readRaw link reg buf) b)) is seen in
       ap (λ (r : Ran Read). shown tape (r .bus .log) at (r .bus .at)) promise
-      ∙ shown-made (readRaw link reg buf) b (all-short (asks-read link reg buf (λ k h. omega arith)) b)
-      ∙ ap some (made .0)
+      ∙ shown-made p b (all-short (asks-read link reg buf (λ k h. omega arith)) b)
+      ∙ ap some (subst Seen is (seen few) .0)
       ∙ ap (λ (n : ℕ). some ((read (link .address) reg n, done (readFrame (link .check) (link .address) bytes)) ∷ []))
       (ap (onBus (link .check)) (sym same-size) ∙ on-bus (link .check) (link .address) bytes)

@@ -38,7 +38,8 @@ use Rattle.procedure.specs.Init.{onward, onwardBy, startCounter, protect, initB
 use Rattle.as_asked.specs.Seen as seen
 use Rattle.as_asked.specs.Init.{SetAsAsked, Demand2}
 use Rattle.as_asked.proofs.Bytes.{data-bytes, behind-bytes, one-byte, counter-on}
-use Rattle.as_asked.proofs.Calibration.{of, given-here, given-behind, none-in, both, read, read-in, Calibrates, both-read, not-read, calibrate-seen}
+use Rattle.as_asked.proofs.Calibration.{of, given-here, given-behind, none-in, both, read, read-in}
+use Rattle.as_asked.proofs.Calibration.{Calibrates, both-read, not-read, calibrate-seen}
 
 -- ---- a refusal that is no plan's
 -- 12 and 13
