@@ -13,7 +13,7 @@ use Rattle.check_byte.specs.CheckByte.{Bytes}
 use Rattle.frames.specs.Frames.{readByte, checked, readFrame, framed}
 use Rattle.bus.specs.Shown.{Made}
 use Rattle.bus.proofs.OfBytes.{AllBytes}
-use Rattle.as_asked.specs.Tables.{SysCtrl1, SysCtrl2, sysCtrl2, counting}
+use Rattle.as_asked.specs.Tables.{Table04, Table05, table05, counting}
 
 -- ---- bytes
 -- a list whose every number is a byte
@@ -44,7 +44,7 @@ one-byte (x ∷ y ∷ l) e = absurd (omega arith)
 head : (a b : ℕ) (rest : Bool) → T (eqb a b && rest) → (a ≡ b) × T rest
 head a b rest t = (eqb→eq a b (both-left (eqb a b) rest t), both-right (eqb a b) rest t)
 
-module _ (x y : SysCtrl2) where
+module _ (x y : Table05) where
   abbrev pub same05 : Bool
   same05 =
       eqb (x .delayDis) (y .delayDis)
@@ -72,7 +72,7 @@ module _ (x y : SysCtrl2) where
         chgOn = last i;
       }
 
-module _ (x y : SysCtrl1) where
+module _ (x y : Table04) where
   abbrev pub same04 : Bool
   same04 =
       eqb (x .loadPresent) (y .loadPresent)
@@ -104,6 +104,6 @@ module _ (x y : SysCtrl1) where
       }
 
 -- 05: bit 6 set is the counter on
-pub counter-on : (was : ℕ) → was < 256 → sysCtrl2 (bitOr was 64) ≡ counting (sysCtrl2 was)
+pub counter-on : (was : ℕ) → was < 256 → table05 (bitOr was 64) ≡ counting (table05 was)
 counter-on was h =
-    same05-is _ _ (below 256 (λ n. same05 (sysCtrl2 (bitOr n 64)) (counting (sysCtrl2 n))) tt was h)
+    same05-is _ _ (below 256 (λ n. same05 (table05 (bitOr n 64)) (counting (table05 n))) tt was h)

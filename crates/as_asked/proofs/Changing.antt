@@ -14,7 +14,7 @@ use Rattle.refusals.specs.Refusal.{Refusal, Answer, value, refused, nine}
 use Rattle.refusals.proofs.Values.{refused-not}
 use Rattle.bus.specs.Programs.{Prog, _orLeave_, _>>=_}
 use Rattle.bus.specs.Raw.{Done, readBytes, writeRaw}
-use Rattle.bus.specs.Shown.{Made, Access, access, writes}
+use Rattle.bus.specs.Shown.{Made, Access, access, registersWritten}
 use Rattle.bus.specs.declared.link.Link.{Link}
 use Rattle.bus.proofs.Exchanges.{ReadSeen, WriteSeen, unsent, read-seen, write-seen}
 use Rattle.bus.proofs.OfBytes.{AllBytes}
@@ -24,8 +24,8 @@ use Rattle.bq769x0.specs.Record.{isSound}
 use Rattle.bq769x0.specs.Registers.{soundly}
 use Rattle.bq769x0.specs.declared.BQ769x0.{BQ769x0}
 use Rattle.commands.specs.Registers.{readRegister, writing, changing}
-use Rattle.as_asked.specs.Seen.{given}
-use Rattle.as_asked.specs.Commands.{wrote, Changes, untouched, stands, changed, Becomes}
+use Rattle.as_asked.specs.Seen.{readFrom}
+use Rattle.as_asked.specs.Commands.{wroteByte, Changes, untouched, stands, changed, Becomes}
 use Rattle.as_asked.proofs.Bytes.{data-bytes, one-byte}
 use Rattle.as_asked.proofs.Calibration.{of, given-here}
 
@@ -33,7 +33,7 @@ use Rattle.as_asked.proofs.Calibration.{of, given-here}
 module _ (link : Link) (reg : ℕ) where
   abbrev ByteSeen : Answer ℕ → List Made → Type 0
   ByteSeen (value byte) h = h ≡ of link reg 1 (byte ∷ []) ∷ []
-  ByteSeen (refused r) h = writes (link .check) h ≡ []
+  ByteSeen (refused r) h = registersWritten (link .check) h ≡ []
 
   byte-seen : throughout ByteSeen (readRegister link reg)
   unfolding readRegister throughout
@@ -72,23 +72,23 @@ module _ {Table : Type 0} (same : Table → Table → Bool) (same-is : (x y : Ta
           subst (λ (o : Option ℕ). T (right same table asked o was)) e
           (below 256 (λ n. right same table asked (change n) n) all was (small ok))
 
-      is-given : given link (first ∷ h) reg ≡ was ∷ []
+      is-given : readFrom link (first ∷ h) reg ≡ was ∷ []
       is-given = given-here link reg 1 (was ∷ []) h
 
-      then-writes : writes (link .check) (first ∷ h) ≡ writes (link .check) h
+      then-writes : registersWritten (link .check) (first ∷ h) ≡ registersWritten (link .check) h
       then-writes = unsent (link .check) (link .address) reg _ (was ∷ []) h
 
     by-write : (now : ℕ) → change was ≡ some now → (y : Answer Done) (h : List Made) → WriteSeen link reg (now ∷ []) y h → Holds y (first ∷ h)
     by-write now e (value x) h q ok =
         changed was now (is-given h) (same-is _ _ (is-right h (some now) e ok)) (then-writes h ∙ q .0) (value tt)
     by-write now e (refused r) h q ok =
-        ⊎-elim (λ (w : writes (link .check) h ≡ []). untouched r (then-writes h ∙ w))
-        (λ (w : writes (link .check) h ≡ wrote link reg now).
+        ⊎-elim (λ (w : registersWritten (link .check) h ≡ []). untouched r (then-writes h ∙ w))
+        (λ (w : registersWritten (link .check) h ≡ wroteByte link reg now).
         changed was now (is-given h) (same-is _ _ (is-right h (some now) e ok)) (then-writes h ∙ w) (refused r))
         (q .0)
 
     by-change : (o : Option ℕ) → change was ≡ o → throughout (λ y h. Holds y (first ∷ h)) (writing link reg o)
-    unfolding writing throughout writes
+    unfolding writing throughout registersWritten
     by-change none e = λ ok. stands was (is-given []) (same-is _ _ (is-right [] none e ok)) (then-writes [])
     by-change (some now) e =
         throughout-weaken (λ y h. Holds y (first ∷ h)) (WriteSeen link reg (now ∷ [])) (writeRaw link reg (now ∷ [])) (by-write now e)
@@ -117,19 +117,19 @@ module _ (link : Link) (reg : ℕ) {Table : Type 0} (table : ℕ → Table) wher
   Of bytes h y = Becomes table (map table bytes) link reg h y
 
   -- so many of the bytes were written
-  turn : (bytes : List ℕ) (n : ℕ) {h : List Made} {y : Answer Done} → writes (link .check) h ≡ map put (take n bytes)
+  turn : (bytes : List ℕ) (n : ℕ) {h : List Made} {y : Answer Done} → registersWritten (link .check) h ≡ map put (take n bytes)
       → (y ≡ value tt → take n bytes ≡ bytes) → Of bytes h y
   turn bytes n w all = record { bytes = bytes; tables = refl; count = n; written = w; all = all }
 
   pub nothing-put : (bytes : List ℕ) (r : Refusal) → Of bytes [] (refused r)
-  unfolding writes
+  unfolding registersWritten
   nothing-put bytes r = turn bytes 0 refl (λ e. refused-not e)
 
   one-turn : (byte : ℕ) (y : Answer Done) (h : List Made) → WriteSeen link reg (byte ∷ []) y h → Of (byte ∷ []) h y
   one-turn byte (value x) h q = turn (byte ∷ []) 1 (q .0) (λ e. refl)
   one-turn byte (refused r) h q =
-      ⊎-elim (λ (w : writes (link .check) h ≡ []). turn (byte ∷ []) 0 w (λ e. refused-not e))
-      (λ (w : writes (link .check) h ≡ put byte ∷ []). turn (byte ∷ []) 1 w (λ e. refused-not e)) (q .0)
+      ⊎-elim (λ (w : registersWritten (link .check) h ≡ []). turn (byte ∷ []) 0 w (λ e. refused-not e))
+      (λ (w : registersWritten (link .check) h ≡ put byte ∷ []). turn (byte ∷ []) 1 w (λ e. refused-not e)) (q .0)
 
   pub one-seen : (byte : ℕ) → throughout (λ y h. AllBytes h → Of (byte ∷ []) h y) (writeRaw link reg (byte ∷ []))
   one-seen byte =
@@ -143,13 +143,13 @@ module _ (link : Link) (reg : ℕ) {Table : Type 0} (table : ℕ → Table) wher
 
     -- those before it, and then this one or not
     then-one : (n byte : ℕ) (before : List ℕ) (h g : List Made) (r : Refusal)
-        → writes (link .check) h ≡ map put before → take n abc ≡ before → take (suc n) abc ≡ before ++ byte ∷ []
-        → (writes (link .check) g ≡ []) ⊎ (writes (link .check) g ≡ put byte ∷ []) → Of abc (h ++ g) (refused r)
+        → registersWritten (link .check) h ≡ map put before → take n abc ≡ before → take (suc n) abc ≡ before ++ byte ∷ []
+        → (registersWritten (link .check) g ≡ []) ⊎ (registersWritten (link .check) g ≡ put byte ∷ []) → Of abc (h ++ g) (refused r)
     then-one n byte before h g r w here more q =
         ⊎-elim
-        (λ (v : writes (link .check) g ≡ []). turn abc n
+        (λ (v : registersWritten (link .check) g ≡ []). turn abc n
         (writes-append (link .check) h g ∙ rw (w, v, append-nil) (ap (map put) (sym here))) (λ e. refused-not e))
-        (λ (v : writes (link .check) g ≡ put byte ∷ []). turn abc (suc n)
+        (λ (v : registersWritten (link .check) g ≡ put byte ∷ []). turn abc (suc n)
         (writes-append (link .check) h g ∙ rw (w, v) (sym (map-append put before (byte ∷ [])) ∙ ap (map put) (sym more)))
         (λ e. refused-not e))
         q
@@ -157,14 +157,14 @@ module _ (link : Link) (reg : ℕ) {Table : Type 0} (table : ℕ → Table) wher
     abbrev Turns : Answer Done → List Made → Type 0
     Turns y h = AllBytes h → Of abc h y
 
-    module _ (h g : List Made) (first : writes (link .check) h ≡ put a ∷ []) (second : writes (link .check) g ≡ put b ∷ []) where
-      two-put : writes (link .check) (h ++ g) ≡ put a ∷ put b ∷ []
+    module _ (h g : List Made) (first : registersWritten (link .check) h ≡ put a ∷ []) (second : registersWritten (link .check) g ≡ put b ∷ []) where
+      two-put : registersWritten (link .check) (h ++ g) ≡ put a ∷ put b ∷ []
       two-put = writes-append (link .check) h g ∙ rw (first, second)
 
       last-turn : (y : Answer Done) (l : List Made) → WriteSeen link reg (c ∷ []) y l → Turns y (h ++ (g ++ l))
       last-turn (value x) l q ok =
           turn abc 3
-          (ap (writes (link .check)) (sym (append-assoc h g l)) ∙ writes-append (link .check) (h ++ g) l ∙ rw (two-put, q .0))
+          (ap (registersWritten (link .check)) (sym (append-assoc h g l)) ∙ writes-append (link .check) (h ++ g) l ∙ rw (two-put, q .0))
           (λ e. refl)
       last-turn (refused r) l q ok =
           subst (λ (k : List Made). Of abc k (refused r)) (append-assoc h g l)
@@ -174,7 +174,7 @@ module _ (link : Link) (reg : ℕ) {Table : Type 0} (table : ℕ → Table) wher
         (writeRaw link reg (a ∷ []) orLeave refused) >>= λ _.
         (writeRaw link reg (b ∷ []) orLeave refused) >>= λ _.
         writeRaw link reg (c ∷ []))
-    unfolding writes
+    unfolding registersWritten
     three-seen =
         throughout-call Turns (WriteSeen link reg (a ∷ [])) (writeRaw link reg (a ∷ [])) refused _ (write-seen link reg (a ∷ []) (omega arith))
         (λ r h q ok. then-one 0 a [] [] h r refl refl refl (q .0))

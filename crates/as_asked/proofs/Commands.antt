@@ -16,7 +16,7 @@ use Rattle.bits.specs.Bits.{placed, putting, switching}
 use Rattle.bus.specs.Transfers.{busOf}
 use Rattle.bus.specs.Programs.{Prog, ran, onTape}
 use Rattle.bus.specs.Raw.{Done, asRaw, writeRaw}
-use Rattle.bus.specs.Shown.{Made, writes}
+use Rattle.bus.specs.Shown.{Made, registersWritten}
 use Rattle.bus.specs.declared.Cursor.{Cursor}
 use Rattle.bus.specs.declared.link.Link.{Link}
 use Rattle.bus.specs.declared.link.Raw.{Raw}
@@ -37,7 +37,7 @@ use Rattle.commands.specs.declared.control.TemperatureSource.the-variants as T
 use Rattle.commands.specs.declared.counter.CoulombCounterMode.{CoulombCounterMode}
 use Rattle.commands.specs.declared.counter.CoulombCounterMode.the-variants as M
 use Rattle.as_asked.specs.Seen.{Shows}
-use Rattle.as_asked.specs.Tables.{cellBal1, sysStat, sysCtrl1, sysCtrl2, withDsgOn, withChgOn, withAdcEn, withTempSel}
+use Rattle.as_asked.specs.Tables.{table01, table00, table04, table05, withDsgOn, withChgOn, withAdcEn, withTempSel}
 use Rattle.as_asked.specs.Commands.{Changes, untouched, Becomes, Resets, shutDown, flag, sourceField, counterFields}
 use Rattle.as_asked.proofs.Bytes.{same04, same04-is, same05, same05-is}
 use Rattle.as_asked.proofs.Changing.{Rightly, changing-seen, soundly-seen, nothing-put, one-seen, three-seen}
@@ -55,28 +55,28 @@ changing-short link reg change =
     asks-call refused _ (asks-call refused _ (read-short link reg 1) (λ bytes. nothing)) (λ byte. writing-short link reg (change byte))
 
 -- ---- each byte, by the tables
-discharge-right : (on : Bool) → Rightly same05 sysCtrl2 (withDsgOn (flag on)) (switching 0b0000_0010 on)
+discharge-right : (on : Bool) → Rightly same05 table05 (withDsgOn (flag on)) (switching 0b0000_0010 on)
 unfolding switching
 discharge-right true = tt
 discharge-right false = tt
 
-charge-right : (on : Bool) → Rightly same05 sysCtrl2 (withChgOn (flag on)) (switching 0b0000_0001 on)
+charge-right : (on : Bool) → Rightly same05 table05 (withChgOn (flag on)) (switching 0b0000_0001 on)
 unfolding switching
 charge-right true = tt
 charge-right false = tt
 
-mode-right : (mode : CoulombCounterMode) → Rightly same05 sysCtrl2 (counterFields mode) (putting 0b0110_0000 (modeBits mode))
+mode-right : (mode : CoulombCounterMode) → Rightly same05 table05 (counterFields mode) (putting 0b0110_0000 (modeBits mode))
 unfolding putting
 mode-right M.Disabled = tt
 mode-right M.OneShot = tt
 mode-right M.Continuous = tt
 
-adc-right : (on : Bool) → Rightly same04 sysCtrl1 (withAdcEn (flag on)) (putting 0b0001_0000 (placed 0b0001_0000 on))
+adc-right : (on : Bool) → Rightly same04 table04 (withAdcEn (flag on)) (putting 0b0001_0000 (placed 0b0001_0000 on))
 unfolding putting
 adc-right true = tt
 adc-right false = tt
 
-source-right : (source : TemperatureSource) → Rightly same04 sysCtrl1 (withTempSel (sourceField source)) (putting 0b0000_1000 (sourceBits source))
+source-right : (source : TemperatureSource) → Rightly same04 table04 (withTempSel (sourceField source)) (putting 0b0000_1000 (sourceBits source))
 unfolding putting
 source-right T.InternalDie = tt
 source-right T.ExternalThermistor = tt
@@ -102,44 +102,44 @@ module _ (d : BQ769x0) (tape log : List ℕ) (at : Cursor) (gave : Raw) (log′ 
       (table : ℕ → Table) (asked : Table → Table) (reg : ℕ) (change : ℕ → Option ℕ) where
     changes : Rightly same table asked change → Kept (soundly d (refused nine) (changing (d .link) reg change))
         → Shown (Changes table asked (d .link) reg)
-    unfolding writes
+    unfolding registersWritten
     changes rightly =
         by-promise (Changes table asked (d .link) reg) (changing (d .link) reg change) (untouched nine refl)
         (changing-short (d .link) reg change) (changing-seen same same-is table asked (d .link) reg change rightly)
 
-  pub discharge-shows : (on : Bool) → Kept (discharge d on) → Shown (Changes sysCtrl2 (withDsgOn (flag on)) (d .link) 0x05)
-  discharge-shows on = changes same05 same05-is sysCtrl2 _ 0x05 _ (discharge-right on)
+  pub discharge-shows : (on : Bool) → Kept (discharge d on) → Shown (Changes table05 (withDsgOn (flag on)) (d .link) 0x05)
+  discharge-shows on = changes same05 same05-is table05 _ 0x05 _ (discharge-right on)
 
-  pub charge-shows : (on : Bool) → Kept (charge d on) → Shown (Changes sysCtrl2 (withChgOn (flag on)) (d .link) 0x05)
-  charge-shows on = changes same05 same05-is sysCtrl2 _ 0x05 _ (charge-right on)
+  pub charge-shows : (on : Bool) → Kept (charge d on) → Shown (Changes table05 (withChgOn (flag on)) (d .link) 0x05)
+  charge-shows on = changes same05 same05-is table05 _ 0x05 _ (charge-right on)
 
   pub mode-shows : (mode : CoulombCounterMode) → Kept (coulombCounterMode d mode)
-      → Shown (Changes sysCtrl2 (counterFields mode) (d .link) 0x05)
-  mode-shows mode = changes same05 same05-is sysCtrl2 _ 0x05 _ (mode-right mode)
+      → Shown (Changes table05 (counterFields mode) (d .link) 0x05)
+  mode-shows mode = changes same05 same05-is table05 _ 0x05 _ (mode-right mode)
 
-  pub adc-shows : (on : Bool) → Kept (enableAdc d on) → Shown (Changes sysCtrl1 (withAdcEn (flag on)) (d .link) 0x04)
-  adc-shows on = changes same04 same04-is sysCtrl1 _ 0x04 _ (adc-right on)
+  pub adc-shows : (on : Bool) → Kept (enableAdc d on) → Shown (Changes table04 (withAdcEn (flag on)) (d .link) 0x04)
+  adc-shows on = changes same04 same04-is table04 _ 0x04 _ (adc-right on)
 
   pub source-shows : (source : TemperatureSource) → Kept (setTemperatureSource d source)
-      → Shown (Changes sysCtrl1 (withTempSel (sourceField source)) (d .link) 0x04)
-  source-shows source = changes same04 same04-is sysCtrl1 _ 0x04 _ (source-right source)
+      → Shown (Changes table04 (withTempSel (sourceField source)) (d .link) 0x04)
+  source-shows source = changes same04 same04-is table04 _ 0x04 _ (source-right source)
 
   -- those that write it whole
-  pub balancing-shows : (cells : ℕ) → Kept (enableBalancing d cells) → Shown (Becomes cellBal1 (cellBal1 cells ∷ []) (d .link) 0x01)
+  pub balancing-shows : (cells : ℕ) → Kept (enableBalancing d cells) → Shown (Becomes table01 (table01 cells ∷ []) (d .link) 0x01)
   unfolding by-record.writeRaw
   balancing-shows cells =
-      by-promise (Becomes cellBal1 (cellBal1 cells ∷ []) (d .link) 0x01) _ (nothing-put (d .link) 0x01 cellBal1 (cells ∷ []) nine)
-      (write-short (d .link) 0x01 _) (one-seen (d .link) 0x01 cellBal1 cells)
+      by-promise (Becomes table01 (table01 cells ∷ []) (d .link) 0x01) _ (nothing-put (d .link) 0x01 table01 (cells ∷ []) nine)
+      (write-short (d .link) 0x01 _) (one-seen (d .link) 0x01 table01 cells)
 
   pub status-shows : (flags : SysStat) → Kept (sysStatReset d flags) → Shown (Resets (flags .bits) (d .link))
-  unfolding throughout writes
+  unfolding throughout registersWritten
   status-shows flags =
       by-promise P _ (none nine) (asks-if (bit 6 byte) (λ e. nothing) (λ e. write-short (d .link) 0x00 _))
       (throughout-if (λ y h. AllBytes h → P h y) (bit 6 byte) _ _ (λ e ok. none (no 18 []))
       (λ e. throughout-weaken (λ y h. AllBytes h → P h y)
-      (λ y h. AllBytes h → Becomes sysStat (sysStat byte ∷ []) (d .link) 0x00 h y) (writeRaw (d .link) 0x00 (byte ∷ []))
+      (λ y h. AllBytes h → Becomes table00 (table00 byte ∷ []) (d .link) 0x00 h y) (writeRaw (d .link) 0x00 (byte ∷ []))
       (λ y h q ok. record { becomes = q ok; reserved = λ r. absurd (true≢false (sym (eq-eqb _ 1 r) ∙ e)) })
-      (one-seen (d .link) 0x00 sysStat byte)))
+      (one-seen (d .link) 0x00 table00 byte)))
     where
       byte : ℕ
       byte = flags .bits
@@ -148,11 +148,11 @@ module _ (d : BQ769x0) (tape log : List ℕ) (at : Cursor) (gave : Raw) (log′ 
       P = Resets byte (d .link)
 
       none : (r : Refusal) → P [] (refused r)
-      none r = record { becomes = nothing-put (d .link) 0x00 sysStat (byte ∷ []) r; reserved = λ e. refl }
+      none r = record { becomes = nothing-put (d .link) 0x00 table00 (byte ∷ []) r; reserved = λ e. refl }
 
-  pub ship-shows : Kept (shipEnter d) → Shown (Becomes sysCtrl1 shutDown (d .link) 0x04)
+  pub ship-shows : Kept (shipEnter d) → Shown (Becomes table04 shutDown (d .link) 0x04)
   ship-shows =
-      by-promise (Becomes sysCtrl1 shutDown (d .link) 0x04) _ (nothing-put (d .link) 0x04 sysCtrl1 (0 ∷ 1 ∷ 2 ∷ []) nine)
+      by-promise (Becomes table04 shutDown (d .link) 0x04) _ (nothing-put (d .link) 0x04 table04 (0 ∷ 1 ∷ 2 ∷ []) nine)
       (asks-call refused _ (write-short (d .link) 0x04 _) λ _.
       asks-call refused _ (write-short (d .link) 0x04 _) λ _. write-short (d .link) 0x04 _)
-      (three-seen (d .link) 0x04 sysCtrl1 0 1 2)
+      (three-seen (d .link) 0x04 table04 0 1 2)

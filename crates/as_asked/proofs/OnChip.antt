@@ -19,7 +19,7 @@ use Rattle.plan.specs.Order as order
 use Rattle.plan.specs.Plan.{Values, Planned, planFor, asInit}
 use Rattle.plan.specs.Steps.{InMv, stepsFor}
 use Rattle.plan.specs.declared.Config.{Config}
-use Rattle.plan.proofs.AsAsked.{given, as-asked}
+use Rattle.plan.proofs.AsAsked.{steps-given, as-asked}
 use Rattle.plan.proofs.Six.{plan-six}
 use Rattle.bus.specs.Transfers.{busOf}
 use Rattle.bus.specs.Programs.{ran, onTape}
@@ -43,7 +43,7 @@ use Rattle.recovery.specs.Runs.{Run, leftBy}
 use Rattle.recovery.proofs.Asked.{init-fine}
 use Rattle.recovery.proofs.ByLog.{as-on-chip, left-by-log}
 use Rattle.recovery.proofs.Whole.{ends, whole}
-use Rattle.as_asked.specs.Tables.{sysCtrl2}
+use Rattle.as_asked.specs.Tables.{table05}
 use Rattle.as_asked.specs.OnChip.{SetOnChip, SetOnEveryChip}
 use Rattle.as_asked.proofs.Bytes.{counter-on}
 
@@ -132,9 +132,9 @@ module _ {config : Config} {d : BQ769x0} {w : Wired} (run : Run stepsFor config 
           as-asked =
               subst (λ (l : List ℕ). AsAsked (adc .gain) (adc .offset) config l (plan .values))
               (sym (held-six (plan .regs) (c .regs) (m .size) all))
-              (as-asked (adc .gain) (adc .offset) config (given config e) gained small planned);
+              (as-asked (adc .gain) (adc .offset) config (steps-given config e) gained small planned);
           counter =
-              ap sysCtrl2 (reg-05 (plan .regs) (c .regs) (m .size) all)
+              ap table05 (reg-05 (plan .regs) (c .regs) (m .size) all)
               ∙ counter-on (getD (c .regs) 0x05 0) (getD-byte (c .regs) 0x05 bytes);
           below = below-05 (plan .regs) (c .regs) (m .size) all;
           above = above-0b (plan .regs) (c .regs) (m .size) all;

@@ -14,11 +14,11 @@ use Rattle.frames.proofs.Frames.{length-readFrame}
 use Rattle.bus.specs.Transfers.{read, done, Bus, busOf}
 use Rattle.bus.specs.Programs.{Prog, Ran, ran, onTape}
 use Rattle.bus.specs.Raw.{Done, Read, gives, asRaw, readRaw}
-use Rattle.bus.specs.Shown.{shown}
+use Rattle.bus.specs.Shown.{madeBetween}
 use Rattle.bus.specs.declared.Cursor.{Cursor}
 use Rattle.bus.specs.declared.link.Link.{Link}
 use Rattle.bus.specs.declared.link.Raw.{Raw}
-use Rattle.bus.proofs.Exchanges.{ReadSeen, given, raw-seen}
+use Rattle.bus.proofs.Exchanges.{ReadSeen, readAnswer, raw-seen}
 use Rattle.bus.proofs.Framed.{history}
 use Rattle.bus.proofs.Reading.{onBus}
 use Rattle.bus.proofs.Shown.{shown-made}
@@ -47,14 +47,14 @@ module _ (link : Link) (reg : ℕ) (buf tape log : List ℕ) (at : Cursor) (gave
   abbrev Seen : Answer (List ℕ) → Type 0
   Seen y = ReadSeen (link .check) (link .address) reg (length buf) y (history p b)
 
-  seen : 1 ≤ length bytes → Seen (given (onTape p b .answer))
+  seen : 1 ≤ length bytes → Seen (readAnswer (onTape p b .answer))
   seen few = on-history _ p (raw-seen link reg buf (omega (arith, same-size))) b
 
   pub exactly-read : ExactlyRead link reg tape at gave log′ bytes
   exactly-read accepted few =
-      let is : given (onTape p b .answer) ≡ value bytes =
-      sym (ap (λ (r : Ran Read). given (r .answer)) promise) ∙ ap (λ (a : Answer Done). answering a bytes) accepted in
-      ap (λ (r : Ran Read). shown tape (r .bus .log) at (r .bus .at)) promise
+      let is : readAnswer (onTape p b .answer) ≡ value bytes =
+      sym (ap (λ (r : Ran Read). readAnswer (r .answer)) promise) ∙ ap (λ (a : Answer Done). answering a bytes) accepted in
+      ap (λ (r : Ran Read). madeBetween tape (r .bus .log) at (r .bus .at)) promise
       ∙ shown-made p b (all-short (asks-read link reg buf (λ k h. omega arith)) b)
       ∙ ap some (subst Seen is (seen few) .0)
       ∙ ap (λ (n : ℕ). some ((read (link .address) reg n, done (readFrame (link .check) (link .address) bytes)) ∷ []))

@@ -19,11 +19,11 @@ use Rattle.plan.specs.Order as order
 use Rattle.plan.specs.Plan.{Values, Planned, planFor}
 use Rattle.plan.specs.Steps.{InMv, stepsFor}
 use Rattle.plan.specs.declared.Config.{Config}
-use Rattle.plan.proofs.AsAsked.{Given, given, exactly, as-asked}
+use Rattle.plan.proofs.AsAsked.{Given, steps-given, exactly, as-asked}
 use Rattle.plan.proofs.Only.{Only, shunt-only, step-only}
 use Rattle.plan.proofs.Six.{plan-six}
 use Rattle.bus.specs.Raw.{Done, readBytes, writeRaw}
-use Rattle.bus.specs.Shown.{Made, Access, access, reads, writes, firstOf}
+use Rattle.bus.specs.Shown.{Made, Access, access, registersRead, registersWritten, firstOf}
 use Rattle.bus.specs.declared.link.Link.{Link}
 use Rattle.chip.proofs.RegisterBytes.{getD-byte}
 use Rattle.bus.proofs.Exchanges.{OfBus, ReadSeen, WriteSeen, unsent, read-seen, write-seen}
@@ -65,7 +65,7 @@ of-bus r e = rw e
 
 module _ (link : Link) (config : Config) where
   -- ahead of the calibration
-  unread : (r : Refusal) (h : List Made) → OfBus r → seen.given link h 0x59 ≡ [] → Demand2 link config h (refused r)
+  unread : (r : Refusal) (h : List Made) → OfBus r → seen.readFrom link h 0x59 ≡ [] → Demand2 link config h (refused r)
   unfolding bind
   unread r h e away = record {
     accepted = λ v q. refused-not q;
@@ -143,23 +143,23 @@ module _ (d : BQ769x0) (config : Config) (steps : InMv) (g : Given config steps)
       behind-is : got ++ on ≡ behind
       behind-is = ap (λ (l : List Made). l ++ on) (five .0)
 
-      given-05 : seen.given (d .link) (whole rest) 0x05 ≡ was ∷ []
+      given-05 : seen.readFrom (d .link) (whole rest) 0x05 ≡ was ∷ []
       given-05 =
           given-behind (d .link) 0x50 0x05 2 first (of (d .link) 0x59 1 second ∷ rest) refl
           ∙ given-behind (d .link) 0x59 0x05 1 second rest refl
           ∙ ap (firstOf address 0x05) (reads-append check written (got ++ on))
-          ∙ six .1 address 0x05 (reads check (got ++ on)) refl
-          ∙ ap (λ (l : List Made). seen.given (d .link) l 0x05) behind-is
+          ∙ six .1 address 0x05 (registersRead check (got ++ on)) refl
+          ∙ ap (λ (l : List Made). seen.readFrom (d .link) l 0x05) behind-is
           ∙ given-here (d .link) 0x05 1 byte on
           ∙ one-byte byte (five .1)
 
-      writes-are : writes check (whole rest) ≡ access address 0x06 (p .regs) ∷ access address 0x05 (bitOr was 64 ∷ []) ∷ []
+      writes-are : registersWritten check (whole rest) ≡ access address 0x06 (p .regs) ∷ access address 0x05 (bitOr was 64 ∷ []) ∷ []
       writes-are =
           unsent check address 0x50 _ first (of (d .link) 0x59 1 second ∷ rest)
           ∙ unsent check address 0x59 _ second rest
           ∙ writes-append check written (got ++ on)
           ∙ ap₂ (λ (x y : List Access). x ++ y) (six .0)
-          (ap (writes check) behind-is ∙ unsent check address 0x05 _ byte on ∙ set .0)
+          (ap (registersWritten check) behind-is ∙ unsent check address 0x05 _ byte on ∙ set .0)
 
       byte-bytes : AllBytes rest → Bytes byte
       byte-bytes ok =
@@ -219,13 +219,13 @@ module _ (d : BQ769x0) (config : Config) where
   unfolding onward onwardBy throughout
   onward-seen steps g left h (both-read first second two one) = protect-seen d config steps g first second two one
   onward-seen steps g left h (not-read r h′ q e) =
-      λ ok. unread (d .link) config r (h ++ []) q (ap (λ (l : List Made). seen.given (d .link) l 0x59) (append-nil h) ∙ e)
+      λ ok. unread (d .link) config r (h ++ []) q (ap (λ (l : List Made). seen.readFrom (d .link) l 0x59) (append-nil h) ∙ e)
 
   pub init-seen : throughout Holds-all (initBy stepsFor d config)
-  unfolding initBy soundly throughout reads
+  unfolding initBy soundly throughout registersRead
   init-seen =
       throughout-if Holds-all (not (isSound d)) _ _ (λ e ok. unread (d .link) config nine [] refl refl)
       (λ e. throughout-pure Holds-all (stepsFor config) (leaving d) _
       (λ r q ok. unread (d .link) config r [] (steps-refused config r q) refl) λ steps q.
       throughout-bind (onward (protect config steps)) (calibrate d) Holds-all (Calibrates d) (calibrate-seen d)
-      (onward-seen steps (given config q)))
+      (onward-seen steps (steps-given config q)))

@@ -11,10 +11,10 @@ use Rattle.plan.specs.AsAsked.{AsAsked}
 use Rattle.plan.specs.Exactly.{of678, unfit}
 use Rattle.plan.specs.Plan.{Values}
 use Rattle.plan.specs.declared.Config.{Config}
-use Rattle.bus.specs.Shown.{Made, access, writes}
+use Rattle.bus.specs.Shown.{Made, access, registersWritten}
 use Rattle.bus.specs.declared.link.Link.{Link}
-use Rattle.as_asked.specs.Tables.{sysCtrl2, counting}
-use Rattle.as_asked.specs.Seen.{given, calibrationIn}
+use Rattle.as_asked.specs.Tables.{table05, counting}
+use Rattle.as_asked.specs.Seen.{readFrom, calibrationIn}
 
 module _ (link : Link) (config : Config) (seen : List Made) where
   -- accepted, with these values
@@ -24,14 +24,14 @@ module _ (link : Link) (config : Config) (seen : List Made) where
     pub calibrated : calibrationIn link seen ≡ some adc
     -- what was read of 05, and what was written: six bytes from 06 on, and then 05, and nothing else
     pub was : ℕ
-    pub read-05 : given link seen 0x05 ≡ was ∷ []
+    pub read-05 : readFrom link seen 0x05 ≡ was ∷ []
     pub six : List ℕ
     pub all-six : length six ≡ 6
     pub now : ℕ
-    pub written : writes (link .check) seen ≡ access (link .address) 0x06 six ∷ access (link .address) 0x05 (now ∷ []) ∷ []
+    pub written : registersWritten (link .check) seen ≡ access (link .address) 0x06 six ∷ access (link .address) 0x05 (now ∷ []) ∷ []
     -- by the register tables: the six are as asked, and so are the values; in 05 the counter is on, and all else as it was read
     pub as-asked : AsAsked (adc .gain) (adc .offset) config six v
-    pub counter : sysCtrl2 now ≡ counting (sysCtrl2 was)
+    pub counter : table05 now ≡ counting (table05 was)
 
   pub record Demand2 (answer : Answer Values) : Type 0 where
     pub accepted : (v : Values) → answer ≡ value v → SetAsAsked v

@@ -20,13 +20,13 @@ use Rattle.chip.specs.OnChip.{Matches, Wired, onWire}
 use Rattle.chip.specs.declared.Chip.{Chip}
 use Rattle.recovery.specs.Recovery.{calibrationOf}
 use Rattle.recovery.specs.Runs.{enough, Run, leftBy}
-use Rattle.as_asked.specs.Tables.{sysCtrl2, counting}
+use Rattle.as_asked.specs.Tables.{table05, counting}
 
 pub record SetOnChip (config : Config) (v : Values) (before after : Chip) : Type 0 where
   -- 06 to 0B by the register table, on the calibration that the chip holds
   pub as-asked : AsAsked (calibrationOf before .gain) (calibrationOf before .offset) config (held 0x06 6 (after .regs)) v
   -- 05: the counter is on, and all else as it was
-  pub counter : sysCtrl2 (getD (after .regs) 0x05 0) ≡ counting (sysCtrl2 (getD (before .regs) 0x05 0))
+  pub counter : table05 (getD (after .regs) 0x05 0) ≡ counting (table05 (getD (before .regs) 0x05 0))
   -- no other register changes
   pub below : (i : ℕ) → i < 0x05 → getD (after .regs) i 0 ≡ getD (before .regs) i 0
   pub above : (i : ℕ) → 0x0B < i → getD (after .regs) i 0 ≡ getD (before .regs) i 0

@@ -3,8 +3,8 @@
 use Prim.Native.Nat.{ℕ}
 use Rattle.adc.specs.Registers.{field}
 
--- 00: the flags
-pub record SysStat : Type 0 where
+-- 00, SYS_STAT: the flags
+pub record Table00 : Type 0 where
   pub ccReady : ℕ
   pub reserved : ℕ
   pub deviceXready : ℕ
@@ -14,8 +14,8 @@ pub record SysStat : Type 0 where
   pub scd : ℕ
   pub ocd : ℕ
 
-abbrev pub sysStat : ℕ → SysStat
-sysStat byte = record {
+abbrev pub table00 : ℕ → Table00
+table00 byte = record {
   ccReady = field 7 7 byte;
   reserved = field 6 6 byte;
   deviceXready = field 5 5 byte;
@@ -26,8 +26,8 @@ sysStat byte = record {
   ocd = field 0 0 byte;
 }
 
--- 01: which of cells 5 to 1 are balanced
-pub record CellBal1 : Type 0 where
+-- 01, CELLBAL1: which of cells 5 to 1 are balanced
+pub record Table01 : Type 0 where
   pub reserved : ℕ
   pub cb5 : ℕ
   pub cb4 : ℕ
@@ -35,8 +35,8 @@ pub record CellBal1 : Type 0 where
   pub cb2 : ℕ
   pub cb1 : ℕ
 
-abbrev pub cellBal1 : ℕ → CellBal1
-cellBal1 byte = record {
+abbrev pub table01 : ℕ → Table01
+table01 byte = record {
   reserved = field 7 5 byte;
   cb5 = field 4 4 byte;
   cb4 = field 3 3 byte;
@@ -45,8 +45,8 @@ cellBal1 byte = record {
   cb1 = field 0 0 byte;
 }
 
--- 04: a load is there; the converter runs; 1 the thermistor, 0 the die; and the two bits that shut the chip down
-pub record SysCtrl1 : Type 0 where
+-- 04, SYS_CTRL1: a load is there; the converter runs; 1 the thermistor, 0 the die; and the two bits that shut the chip down
+pub record Table04 : Type 0 where
   pub loadPresent : ℕ
   pub reserved65 : ℕ
   pub adcEn : ℕ
@@ -55,8 +55,8 @@ pub record SysCtrl1 : Type 0 where
   pub shutA : ℕ
   pub shutB : ℕ
 
-abbrev pub sysCtrl1 : ℕ → SysCtrl1
-sysCtrl1 byte = record {
+abbrev pub table04 : ℕ → Table04
+table04 byte = record {
   loadPresent = field 7 7 byte;
   reserved65 = field 6 5 byte;
   adcEn = field 4 4 byte;
@@ -66,8 +66,8 @@ sysCtrl1 byte = record {
   shutB = field 0 0 byte;
 }
 
--- 05: no delays; the counter runs, or runs once; discharging and charging
-pub record SysCtrl2 : Type 0 where
+-- 05, SYS_CTRL2: no delays; the counter runs, or runs once; discharging and charging
+pub record Table05 : Type 0 where
   pub delayDis : ℕ
   pub ccEn : ℕ
   pub ccOneshot : ℕ
@@ -75,8 +75,8 @@ pub record SysCtrl2 : Type 0 where
   pub dsgOn : ℕ
   pub chgOn : ℕ
 
-abbrev pub sysCtrl2 : ℕ → SysCtrl2
-sysCtrl2 byte = record {
+abbrev pub table05 : ℕ → Table05
+table05 byte = record {
   delayDis = field 7 7 byte;
   ccEn = field 6 6 byte;
   ccOneshot = field 5 5 byte;
@@ -86,7 +86,7 @@ sysCtrl2 byte = record {
 }
 
 -- ---- one field as asked, or two, and every other as it was
-abbrev pub withSwitches : ℕ → ℕ → SysCtrl2 → SysCtrl2
+abbrev pub withSwitches : ℕ → ℕ → Table05 → Table05
 withSwitches dsg chg was = record {
   delayDis = was .delayDis;
   ccEn = was .ccEn;
@@ -96,13 +96,13 @@ withSwitches dsg chg was = record {
   chgOn = chg;
 }
 
-abbrev pub withDsgOn : ℕ → SysCtrl2 → SysCtrl2
+abbrev pub withDsgOn : ℕ → Table05 → Table05
 withDsgOn on was = withSwitches on (was .chgOn) was
 
-abbrev pub withChgOn : ℕ → SysCtrl2 → SysCtrl2
+abbrev pub withChgOn : ℕ → Table05 → Table05
 withChgOn on was = withSwitches (was .dsgOn) on was
 
-abbrev pub withCounter : ℕ → ℕ → SysCtrl2 → SysCtrl2
+abbrev pub withCounter : ℕ → ℕ → Table05 → Table05
 withCounter en oneshot was = record {
   delayDis = was .delayDis;
   ccEn = en;
@@ -113,10 +113,10 @@ withCounter en oneshot was = record {
 }
 
 -- the counter on
-abbrev pub counting : SysCtrl2 → SysCtrl2
+abbrev pub counting : Table05 → Table05
 counting was = withCounter 1 (was .ccOneshot) was
 
-abbrev pub withConverter : ℕ → ℕ → SysCtrl1 → SysCtrl1
+abbrev pub withConverter : ℕ → ℕ → Table04 → Table04
 withConverter adc temp was = record {
   loadPresent = was .loadPresent;
   reserved65 = was .reserved65;
@@ -127,12 +127,12 @@ withConverter adc temp was = record {
   shutB = was .shutB;
 }
 
-abbrev pub withAdcEn : ℕ → SysCtrl1 → SysCtrl1
+abbrev pub withAdcEn : ℕ → Table04 → Table04
 withAdcEn on was = withConverter on (was .tempSel) was
 
-abbrev pub withTempSel : ℕ → SysCtrl1 → SysCtrl1
+abbrev pub withTempSel : ℕ → Table04 → Table04
 withTempSel source was = withConverter (was .adcEn) source was
 
 -- ---- 04 with these shut bits, and 0 in every other field
-abbrev pub shutting : ℕ → ℕ → SysCtrl1
+abbrev pub shutting : ℕ → ℕ → Table04
 shutting a b = record { loadPresent = 0; reserved65 = 0; adcEn = 0; tempSel = 0; reserved2 = 0; shutA = a; shutB = b }

@@ -2,7 +2,7 @@
 ghost use mathlib.Core.List.{[], _∷_};
 ghost use Rattle.bus.specs.Raw.{asRaw};
 ghost use Rattle.as_asked.specs.Seen.{Shows};
-ghost use Rattle.as_asked.specs.Tables.{cellBal1, sysCtrl1, sysCtrl2, withDsgOn, withChgOn, withAdcEn, withTempSel};
+ghost use Rattle.as_asked.specs.Tables.{table01, table04, table05, withDsgOn, withChgOn, withAdcEn, withTempSel};
 ghost use Rattle.as_asked.specs.Commands.{Changes, Becomes, Resets, shutDown, flag, sourceField, counterFields};
 use bq769x0::BQ769x0;
 use bus::Cursor;
@@ -18,14 +18,14 @@ use commands::switches;
 use units::flags::SysStat;
 
 fn discharge(device: BQ769x0, enable: bool, tape: &[u8], log: &mut [u8], at: Cursor) -> Raw
-    ensures { λ r. ⌜ Shows (Changes sysCtrl2 (withDsgOn (flag enable)) (device .link) 0x05)
+    ensures { λ r. ⌜ Shows (Changes table05 (withDsgOn (flag enable)) (device .link) 0x05)
         (now (tape .entry)) (now (log .exit)) at (r .at) (asRaw (r .answer)) ⌝ }
 {
     switches::discharge(device, enable, tape, log, at)
 }
 
 fn charge(device: BQ769x0, enable: bool, tape: &[u8], log: &mut [u8], at: Cursor) -> Raw
-    ensures { λ r. ⌜ Shows (Changes sysCtrl2 (withChgOn (flag enable)) (device .link) 0x05)
+    ensures { λ r. ⌜ Shows (Changes table05 (withChgOn (flag enable)) (device .link) 0x05)
         (now (tape .entry)) (now (log .exit)) at (r .at) (asRaw (r .answer)) ⌝ }
 {
     switches::charge(device, enable, tape, log, at)
@@ -38,14 +38,14 @@ fn coulomb_counter_mode(
     log: &mut [u8],
     at: Cursor,
 ) -> Raw
-    ensures { λ r. ⌜ Shows (Changes sysCtrl2 (counterFields mode) (device .link) 0x05)
+    ensures { λ r. ⌜ Shows (Changes table05 (counterFields mode) (device .link) 0x05)
         (now (tape .entry)) (now (log .exit)) at (r .at) (asRaw (r .answer)) ⌝ }
 {
     counter::coulomb_counter_mode(device, mode, tape, log, at)
 }
 
 fn enable_adc(device: BQ769x0, enable: bool, tape: &[u8], log: &mut [u8], at: Cursor) -> Raw
-    ensures { λ r. ⌜ Shows (Changes sysCtrl1 (withAdcEn (flag enable)) (device .link) 0x04)
+    ensures { λ r. ⌜ Shows (Changes table04 (withAdcEn (flag enable)) (device .link) 0x04)
         (now (tape .entry)) (now (log .exit)) at (r .at) (asRaw (r .answer)) ⌝ }
 {
     control::enable_adc(device, enable, tape, log, at)
@@ -58,14 +58,14 @@ fn set_temperature_source(
     log: &mut [u8],
     at: Cursor,
 ) -> Raw
-    ensures { λ r. ⌜ Shows (Changes sysCtrl1 (withTempSel (sourceField source)) (device .link) 0x04)
+    ensures { λ r. ⌜ Shows (Changes table04 (withTempSel (sourceField source)) (device .link) 0x04)
         (now (tape .entry)) (now (log .exit)) at (r .at) (asRaw (r .answer)) ⌝ }
 {
     control::set_temperature_source(device, source, tape, log, at)
 }
 
 fn enable_balancing(device: BQ769x0, cells: u8, tape: &[u8], log: &mut [u8], at: Cursor) -> Raw
-    ensures { λ r. ⌜ Shows (Becomes cellBal1 (cellBal1 cells ∷ []) (device .link) 0x01)
+    ensures { λ r. ⌜ Shows (Becomes table01 (table01 cells ∷ []) (device .link) 0x01)
         (now (tape .entry)) (now (log .exit)) at (r .at) (asRaw (r .answer)) ⌝ }
 {
     balancing::enable_balancing(device, cells, tape, log, at)
@@ -79,7 +79,7 @@ fn sys_stat_reset(device: BQ769x0, flags: SysStat, tape: &[u8], log: &mut [u8], 
 }
 
 fn ship_enter(device: BQ769x0, tape: &[u8], log: &mut [u8], at: Cursor) -> Raw
-    ensures { λ r. ⌜ Shows (Becomes sysCtrl1 shutDown (device .link) 0x04)
+    ensures { λ r. ⌜ Shows (Becomes table04 shutDown (device .link) 0x04)
         (now (tape .entry)) (now (log .exit)) at (r .at) (asRaw (r .answer)) ⌝ }
 {
     ship::ship_enter(device, tape, log, at)

@@ -24,7 +24,7 @@ use Rattle.bus.specs.Programs.{Prog, ret, ask}
 use Rattle.bus.specs.Raw.{Done, sound, refuses, Read, gives, plainly, received, whereRight, checkedly}
 use Rattle.bus.specs.Raw.{plainRead, askFrame, checkedRead, readRaw, readBytes}
 use Rattle.bus.specs.Raw.{wrote, askWrite, send, compared, verified, askBack, writeRaw}
-use Rattle.bus.specs.Shown.{Made, Access, access, carried, gotBy, sentBy, reads, writes, firstOf}
+use Rattle.bus.specs.Shown.{Made, Access, access, dataIn, gotBy, sentBy, registersRead, registersWritten, firstOf}
 use Rattle.bus.specs.declared.link.Link.{Link}
 use Rattle.bus.proofs.Framed.{made}
 use Rattle.bus.proofs.Reading.{onBus, readBy, only-frame}
@@ -81,8 +81,8 @@ module _ (s : Link) (reg : ℕ) (buf : List ℕ) (some : 1 ≤ length buf) where
 
 -- nothing was written, and nothing was read
 pub record Silent (check : Bool) (h : List Made) : Type 0 where
-  pub unwritten : writes check h ≡ []
-  pub unread : (address reg : ℕ) → firstOf address reg (reads check h) ≡ []
+  pub unwritten : registersWritten check h ≡ []
+  pub unread : (address reg : ℕ) → firstOf address reg (registersRead check h) ≡ []
 
 -- an accepted read of n registers
 abbrev pub accepted : Bool → ℕ → ℕ → ℕ → List ℕ → Made
@@ -94,11 +94,11 @@ ReadSeen check address reg n (value bytes) h =
 ReadSeen check address reg n (refused r) h = Silent check h × OfBus r
 
 nothing-made : (check : Bool) → Silent check []
-unfolding writes reads
+unfolding registersWritten registersRead
 nothing-made check = record { unwritten = refl; unread = λ address reg. refl }
 
 fault-made : (check : Bool) (address reg n : ℕ) (bytes : List ℕ) → Silent check ((read address reg n, fault bytes) ∷ [])
-unfolding writes reads sentBy gotBy
+unfolding registersWritten registersRead sentBy gotBy
 fault-made check address reg n bytes = record { unwritten = refl; unread = λ a r. refl }
 
 either-none : (t : Bool) → _≡_ {A = List ℕ} (if t then [] else []) []
@@ -107,7 +107,7 @@ either-none false = refl
 
 wrong-made : (address reg n : ℕ) (bytes : List ℕ) → right (readByte address ∷ []) bytes ≡ false
     → Silent true ((read address reg n, done bytes) ∷ [])
-unfolding writes reads sentBy gotBy carried
+unfolding registersWritten registersRead sentBy gotBy dataIn
 wrong-made address reg n bytes e = record {
   unwritten = refl;
   unread = λ a r. rw e (either-none (eqb address a && eqb reg r));
@@ -159,33 +159,33 @@ module _ (address reg : ℕ) (buf : List ℕ) where
   seen check o h (refused r) e = quiet check o h e
 
 -- of a read into a caller's bytes, what it answers and they are then
-abbrev pub given : Read → Answer (List ℕ)
-given r = answering (r .answer) (r .bytes)
+abbrev pub readAnswer : Read → Answer (List ℕ)
+readAnswer r = answering (r .answer) (r .bytes)
 
 module _ (s : Link) (reg : ℕ) where
   by-form : (buf : List ℕ) (p : Prog Read) → ReadForm (s .check) (s .address) reg buf p
-      → throughout (λ r h. ReadSeen (s .check) (s .address) reg (length buf) (given r) h) p
+      → throughout (λ r h. ReadSeen (s .check) (s .address) reg (length buf) (readAnswer r) h) p
   unfolding throughout wanted
   by-form buf p (turned k e) = (nothing-made (s .check), e)
   by-form buf p goes = λ o h. seen (s .address) reg buf (s .check) o h (readBy (s .check) (s .address) buf o .answer) refl
 
   pub raw-seen : (buf : List ℕ) → 1 ≤ length buf
-      → throughout (λ r h. ReadSeen (s .check) (s .address) reg (length buf) (given r) h) (readRaw s reg buf)
+      → throughout (λ r h. ReadSeen (s .check) (s .address) reg (length buf) (readAnswer r) h) (readRaw s reg buf)
   raw-seen buf some = by-form buf (readRaw s reg buf) (read-form s reg buf some)
 
   pub read-seen : (n : ℕ) → 1 ≤ n → throughout (ReadSeen (s .check) (s .address) reg n) (readBytes s reg n)
   unfolding readBytes throughout
   read-seen n few =
       let size = length-replicate {A = ℕ} n 0 in
-      throughout-bind (λ r. ret (given r)) (readRaw s reg (replicate n 0)) (ReadSeen (s .check) (s .address) reg n)
-      (λ r h. ReadSeen (s .check) (s .address) reg (length (replicate {A = ℕ} n 0)) (given r) h)
+      throughout-bind (λ r. ret (readAnswer r)) (readRaw s reg (replicate n 0)) (ReadSeen (s .check) (s .address) reg n)
+      (λ r h. ReadSeen (s .check) (s .address) reg (length (replicate {A = ℕ} n 0)) (readAnswer r) h)
       (raw-seen (replicate n 0) (omega (arith, size)))
-      (λ r h q. subst (ReadSeen (s .check) (s .address) reg n (given r)) (sym (append-nil h))
-      (subst (λ (k : ℕ). ReadSeen (s .check) (s .address) reg k (given r) h) size q))
+      (λ r h q. subst (ReadSeen (s .check) (s .address) reg n (readAnswer r)) (sym (append-nil h))
+      (subst (λ (k : ℕ). ReadSeen (s .check) (s .address) reg k (readAnswer r) h) size q))
 
 -- what a frame that was made of bytes carries is these bytes
-carried-framed : (check : Bool) (before bytes : List ℕ) → carried check before (framed check before bytes) ≡ bytes
-unfolding carried framed
+carried-framed : (check : Bool) (before bytes : List ℕ) → dataIn check before (framed check before bytes) ≡ bytes
+unfolding dataIn framed
 carried-framed false before bytes = refl
 carried-framed true before bytes = rw (right-checked before bytes, data-checked before bytes)
 
@@ -203,12 +203,12 @@ passed address another reg other bytes more e = rw e (by (eqb address another))
 
 -- among what was read and written
 module _ (check : Bool) (address reg n : ℕ) (bytes : List ℕ) (h : List Made) where
-  pub got : reads check (accepted check address reg n bytes ∷ h) ≡ access address reg bytes ∷ reads check h
-  unfolding reads gotBy readFrame
-  got = ap (λ (l : List ℕ). access address reg l ∷ reads check h) (carried-framed check (readByte address ∷ []) bytes)
+  pub got : registersRead check (accepted check address reg n bytes ∷ h) ≡ access address reg bytes ∷ registersRead check h
+  unfolding registersRead gotBy readFrame
+  got = ap (λ (l : List ℕ). access address reg l ∷ registersRead check h) (carried-framed check (readByte address ∷ []) bytes)
 
-  pub unsent : writes check (accepted check address reg n bytes ∷ h) ≡ writes check h
-  unfolding writes sentBy
+  pub unsent : registersWritten check (accepted check address reg n bytes ∷ h) ≡ registersWritten check h
+  unfolding registersWritten sentBy
   unsent = refl
 
 -- ---- a write
@@ -225,24 +225,24 @@ module _ (s : Link) (reg : ℕ) (bytes : List ℕ) where
   -- no other register was read
   abbrev pub Elsewhere : List Made → Type 0
   Elsewhere h = (address other : ℕ) (more : List Access) → eqb reg other ≡ false
-      → firstOf address other (reads (s .check) h ++ more) ≡ firstOf address other more
+      → firstOf address other (registersRead (s .check) h ++ more) ≡ firstOf address other more
 
   abbrev pub WriteSeen : Answer Done → List Made → Type 0
-  WriteSeen (value x) h = (writes (s .check) h ≡ these) × Elsewhere h
-  WriteSeen (refused r) h = ((writes (s .check) h ≡ []) ⊎ (writes (s .check) h ≡ these)) × Elsewhere h × OfBus r
+  WriteSeen (value x) h = (registersWritten (s .check) h ≡ these) × Elsewhere h
+  WriteSeen (refused r) h = ((registersWritten (s .check) h ≡ []) ⊎ (registersWritten (s .check) h ≡ these)) × Elsewhere h × OfBus r
 
   abbrev SendSeen : Answer Done → List Made → Type 0
-  SendSeen (value x) h = (writes (s .check) h ≡ these) × (reads (s .check) h ≡ [])
-  SendSeen (refused r) h = ((writes (s .check) h ≡ []) ⊎ (writes (s .check) h ≡ these)) × (reads (s .check) h ≡ []) × OfBus r
+  SendSeen (value x) h = (registersWritten (s .check) h ≡ these) × (registersRead (s .check) h ≡ [])
+  SendSeen (refused r) h = ((registersWritten (s .check) h ≡ []) ⊎ (registersWritten (s .check) h ≡ these)) × (registersRead (s .check) h ≡ []) × OfBus r
 
-  one-write : (o : Outcome) → writes (s .check) ((write (s .address) (writeFrame (s .check) (s .address) reg bytes), o) ∷ []) ≡ these
-  unfolding writes sentBy writeFrame
+  one-write : (o : Outcome) → registersWritten (s .check) ((write (s .address) (writeFrame (s .check) (s .address) reg bytes), o) ∷ []) ≡ these
+  unfolding registersWritten sentBy writeFrame
   one-write o =
       ap (λ (l : List ℕ). access (s .address) reg l ∷ []) (carried-framed (s .check) (writeByte (s .address) ∷ reg ∷ []) bytes)
 
   by-outcome : (o : Outcome) → Sized 0 o
       → SendSeen (wrote o) (made (write (s .address) (writeFrame (s .check) (s .address) reg bytes)) o [])
-  unfolding wrote made reads gotBy writes
+  unfolding wrote made registersRead gotBy registersWritten
   by-outcome (done x) h = (one-write (done x), refl)
   by-outcome (fault x) h = (inr (one-write (fault x)), refl, refl)
   by-outcome (stopped r) h = (inl refl, refl, of-stop r h)
@@ -262,13 +262,13 @@ module _ (s : Link) (reg : ℕ) (bytes : List ℕ) where
         (λ e. send-if (ltb 256 (reg + length bytes)) _ _ (λ e. turned-off 14 refl) (λ e. sent))))
 
     sent-seen : (p : Prog (Answer Done)) → SendForm s reg bytes p → throughout SendSeen p
-    unfolding throughout wanted writes reads
+    unfolding throughout wanted registersWritten registersRead
     sent-seen p (turned-off n e) = (inl refl, refl, e)
     sent-seen p sent = by-outcome
 
     -- read back: nothing more is written, and this register alone is read
-    module _ (h g : List Made) (q : SendSeen (value tt) h) (unwritten : writes (s .check) g ≡ []) (e : Elsewhere g) where
-      then-writes : writes (s .check) (h ++ g) ≡ these
+    module _ (h g : List Made) (q : SendSeen (value tt) h) (unwritten : registersWritten (s .check) g ≡ []) (e : Elsewhere g) where
+      then-writes : registersWritten (s .check) (h ++ g) ≡ these
       then-writes = writes-append (s .check) h g ∙ rw (q .0, unwritten)
 
       then-elsewhere : Elsewhere (h ++ g)
@@ -290,7 +290,7 @@ module _ (s : Link) (reg : ℕ) (bytes : List ℕ) where
 
     back-seen : (h : List Made) → SendSeen (value tt) h
         → throughout (λ y g. WriteSeen y (h ++ g)) (askBack (s .address) reg bytes)
-    unfolding askBack throughout wanted verified made writes sentBy reads gotBy
+    unfolding askBack throughout wanted verified made registersWritten sentBy registersRead gotBy
     back-seen h q = λ o sized. by o sized
       where
         t : Transfer
@@ -302,7 +302,7 @@ module _ (s : Link) (reg : ℕ) (bytes : List ℕ) where
         by (stopped x) sized = refused-seen h [] q refl (λ a r more e. refl) x (of-stop x sized)
 
     done-seen : (h : List Made) → SendSeen (value tt) h → WriteSeen (value tt) (h ++ [])
-    unfolding writes reads
+    unfolding registersWritten registersRead
     done-seen h q = (then-writes h [] q refl (λ a r more e. refl), then-elsewhere h [] q refl (λ a r more e. refl))
 
     pub write-seen : throughout WriteSeen (writeRaw s reg bytes)

@@ -14,7 +14,7 @@ use Rattle.frames.proofs.Put.{put-none, length-put, put-put, take-before, take-
 use Rattle.bus.specs.Transfers.{Transfer, Outcome, done, fault, stopped, Bus}
 use Rattle.bus.specs.Transfers.{logField, tapeField, moved, after, outcome}
 use Rattle.bus.specs.Programs.{Prog, ret, ask, Ran, onTape}
-use Rattle.bus.specs.Shown.{Made, logged, taken}
+use Rattle.bus.specs.Shown.{Made, logged, tapeFields}
 use Rattle.bus.proofs.Order.{by-room}
 
 -- a stopped transfer was not made
@@ -36,7 +36,7 @@ Room b bytes = b .at .log + length bytes ≤ length (b .log)
 pub record Framed (b b′ : Bus) (h : List Made) : Type 0 where
   pub tape : b′ .tape ≡ b .tape
   pub log : b′ .log ≡ put (b .log) (b .at .log) (logged h)
-  pub tape-used : b′ .at .tape ≡ b .at .tape + length (taken h)
+  pub tape-used : b′ .at .tape ≡ b .at .tape + length (tapeFields h)
   pub log-used : b′ .at .log ≡ b .at .log + length (logged h)
   -- nothing is logged past the log's end; a position past it may stay there
   pub room : (h ≡ []) ⊎ Room b (logged h)
@@ -54,7 +54,7 @@ room-made : (t : Transfer) (b : Bus) → Delivered (outcome t b) → Room b (log
 room-made t b = by-room t b (λ o. Delivered o → Room b (logField t)) (λ e d. leb-true _ _ e) (λ d. absurd d)
 
 framed-none : (b : Bus) → Framed b b []
-unfolding logged taken
+unfolding logged tapeFields
 framed-none b = record {
   tape = refl;
   log = sym (put-none (b .log) (b .at .log));
@@ -72,7 +72,7 @@ room-more n m h r (inr q) = q
 module _ (t : Transfer) (b b′ : Bus) (h : List Made) where
   framed-made : (o : Outcome) → Room b (logField t) → Framed (moved (tapeField o) (logField t) b) b′ h
       → Framed b b′ ((t, o) ∷ h)
-  unfolding logged taken moved
+  unfolding logged tapeFields moved
   framed-made o r f =
       let q = room-more _ _ h (rw (length-put (b .log) (b .at .log) (logField t) r) r) (f .room) in
       record {

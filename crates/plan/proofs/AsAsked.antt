@@ -69,9 +69,9 @@ step-given xs amperes shunt {n} e = by (ltb (amperes * shunt) 256000) refl e
         below h = omega arith
     by false q e = refused-not e
 
-pub given : (config : Config) {steps : InMv} → stepsFor config ≡ value steps → Given config steps
+pub steps-given : (config : Config) {steps : InMv} → stepsFor config ≡ value steps → Given config steps
 unfolding stepsFor
-given config {steps} e =
+steps-given config {steps} e =
     let s = first _ _ e in
     let a = first _ _ (s .1 .1) in
     let b = first _ _ (a .1 .1) in
