@@ -233,7 +233,8 @@ module _ (s : Link) (reg : ℕ) (bytes : List ℕ) where
 
   abbrev SendSeen : Answer Done → List Made → Type 0
   SendSeen (value x) h = (registersWritten (s .check) h ≡ these) × (registersRead (s .check) h ≡ [])
-  SendSeen (refused r) h = ((registersWritten (s .check) h ≡ []) ⊎ (registersWritten (s .check) h ≡ these)) × (registersRead (s .check) h ≡ []) × OfBus r
+  SendSeen (refused r) h = ((registersWritten (s .check) h ≡ []) ⊎ (registersWritten (s .check) h ≡ these))
+      × (registersRead (s .check) h ≡ []) × OfBus r
 
   one-write : (o : Outcome) → registersWritten (s .check) ((write (s .address) (writeFrame (s .check) (s .address) reg bytes), o) ∷ []) ≡ these
   unfolding registersWritten sentBy writeFrame
