@@ -3,25 +3,19 @@
 -- Assumes nothing.
 use mathlib.Core.Path.{_≡_, refl, sym, _∙_}
 use mathlib.Core.Logic.{_⊎_, inl, inr, ⊎-elim}
-use mathlib.Core.Bool.{Bool, true, false}
 use mathlib.Core.List.{List, [], _∷_, _++_, append-nil}
 use Prim.Native.Nat.{ℕ, _+_, _≤_}
 use native.Mathlib.Nat.{add-zero, add-assoc}
 use native.Mathlib.Omega.{arith}
 use lib.ListN.{length, take, drop, length-append}
-use lib.Dec.{leb}
 use borrow.Author.Tests.{leb-true}
-use Rattle.refusals.specs.Refusal.{Refusal}
 use Rattle.frames.specs.Put.{put}
 use Rattle.frames.proofs.Put.{put-none, length-put, put-put, take-before, take-put, drop-put}
-use Rattle.laws.specs.Choice.{if_then_else_}
 use Rattle.bus.specs.Transfers.{Transfer, Outcome, done, fault, stopped, Bus}
-use Rattle.bus.specs.Transfers.{logField, tapeField, moved, after, answered, outcome}
+use Rattle.bus.specs.Transfers.{logField, tapeField, moved, after, outcome}
 use Rattle.bus.specs.Programs.{Prog, ret, ask, Ran, onTape}
-
--- a transfer made, and how it went
-abbrev pub Made : Type 0
-Made = Transfer × Outcome
+use Rattle.bus.specs.Shown.{Made, logged, tapeFields}
+use Rattle.bus.proofs.Order.{by-room}
 
 -- a stopped transfer was not made
 unfoldable pub made : Transfer → Outcome → List Made → List Made
@@ -34,15 +28,6 @@ unfoldable pub history : {A : Type 0} → Prog A → Bus → List Made
 history (ret a) b = []
 history (ask t k) b = made t (outcome t b) (history (k (outcome t b)) (after t (outcome t b) b))
 
--- their fields in the log, and on the tape
-unfoldable pub logged : List Made → List ℕ
-logged [] = []
-logged (m ∷ h) = logField (m .0) ++ logged h
-
-unfoldable pub taken : List Made → List ℕ
-taken [] = []
-taken (m ∷ h) = tapeField (m .1) ++ taken h
-
 -- the log has room for these bytes
 abbrev pub Room : Bus → List ℕ → Type 0
 Room b bytes = b .at .log + length bytes ≤ length (b .log)
@@ -51,7 +36,7 @@ Room b bytes = b .at .log + length bytes ≤ length (b .log)
 pub record Framed (b b′ : Bus) (h : List Made) : Type 0 where
   pub tape : b′ .tape ≡ b .tape
   pub log : b′ .log ≡ put (b .log) (b .at .log) (logged h)
-  pub tape-used : b′ .at .tape ≡ b .at .tape + length (taken h)
+  pub tape-used : b′ .at .tape ≡ b .at .tape + length (tapeFields h)
   pub log-used : b′ .at .log ≡ b .at .log + length (logged h)
   -- nothing is logged past the log's end; a position past it may stay there
   pub room : (h ≡ []) ⊎ Room b (logged h)
@@ -65,16 +50,11 @@ Delivered (fault bytes) = Unit
 Delivered (stopped r) = ⊥
 
 -- so there was room for its field
-room-if : (m n : ℕ) (o : Outcome) (r : Refusal) (c : Bool) → leb m n ≡ c → Delivered (if c then o else stopped r) → m ≤ n
-room-if m n o r true e d = leb-true _ _ e
-room-if m n o r false e d = absurd d
-
 room-made : (t : Transfer) (b : Bus) → Delivered (outcome t b) → Room b (logField t)
-unfolding outcome answered
-room-made t b d = room-if _ _ _ _ _ refl d
+room-made t b = by-room t b (λ o. Delivered o → Room b (logField t)) (λ e d. leb-true _ _ e) (λ d. absurd d)
 
 framed-none : (b : Bus) → Framed b b []
-unfolding logged taken
+unfolding logged tapeFields
 framed-none b = record {
   tape = refl;
   log = sym (put-none (b .log) (b .at .log));
@@ -92,7 +72,7 @@ room-more n m h r (inr q) = q
 module _ (t : Transfer) (b b′ : Bus) (h : List Made) where
   framed-made : (o : Outcome) → Room b (logField t) → Framed (moved (tapeField o) (logField t) b) b′ h
       → Framed b b′ ((t, o) ∷ h)
-  unfolding logged taken moved
+  unfolding logged tapeFields moved
   framed-made o r f =
       let q = room-more _ _ h (rw (length-put (b .log) (b .at .log) (logField t) r) r) (f .room) in
       record {

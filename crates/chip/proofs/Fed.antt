@@ -17,7 +17,7 @@ use Rattle.bus.specs.Raw.{readBytes, writeRaw}
 use Rattle.bus.specs.declared.link.Link.{Link}
 use Rattle.bus.specs.Decoders.{transfersIn}
 use Rattle.bus.proofs.Decoders.{Short, Fitting, AllShort, transfers-logged}
-use Rattle.bus.proofs.Framed.{Made, logged, taken}
+use Rattle.bus.specs.Shown.{Made, logged, tapeFields}
 use Rattle.chip.specs.Devices.{Reached, reached, onDevice, madeOn, logOf, tapeOf}
 use Rattle.chip.specs.Chip.{answers, carried, respond, respondCut}
 use Rattle.chip.specs.OnChip.{Wired, onWire, onChip, fed}
@@ -36,8 +36,8 @@ module _ {S : Type 0} (move : S → Transfer → Reached S Outcome) where
   log-made (ret a) s = refl
   log-made (ask t k) s = ap (_++_ (logField t)) (log-made (k (move s t .answer)) (move s t .device))
 
-  pub tape-made : {A : Type 0} (p : Prog A) (s : S) → tapeOf move p s ≡ taken (madeOn move p s)
-  unfolding tapeOf madeOn taken
+  pub tape-made : {A : Type 0} (p : Prog A) (s : S) → tapeOf move p s ≡ tapeFields (madeOn move p s)
+  unfolding tapeOf madeOn tapeFields
   tape-made (ret a) s = refl
   tape-made (ask t k) s =
       ap (_++_ (tapeField (move s t .answer))) (tape-made (k (move s t .answer)) (move s t .device))
