@@ -23,12 +23,10 @@ use Rattle.plan.proofs.AsAsked.{steps-given, as-asked}
 use Rattle.plan.proofs.Six.{plan-six}
 use Rattle.bus.specs.Transfers.{busOf}
 use Rattle.bus.specs.Programs.{ran, onTape}
-use Rattle.bus.specs.declared.Cursor.{Cursor}
 use Rattle.bq769x0.specs.Record.{Left, leaves, leaving, isSound}
 use Rattle.bq769x0.specs.Registers.{soundly}
 use Rattle.bq769x0.specs.declared.BQ769x0.{BQ769x0}
 use Rattle.procedure.specs.Init.{initBy}
-use Rattle.setup.specs.declared.left.Init.{Init}
 use Rattle.chip.specs.Chip.{withRegs, held}
 use Rattle.chip.specs.Devices.{Reached, onDevice}
 use Rattle.chip.specs.OnChip.{Matches, Wired, uncut, onChip}
@@ -39,7 +37,7 @@ use Rattle.chip.proofs.Quits.{Refuses, refuses-by}
 use Rattle.chip.proofs.RegisterBytes.{getD-byte}
 use Rattle.chip.proofs.Shows.{held-is, held-put}
 use Rattle.recovery.specs.Recovery.{calibrationOf, planOn, counted}
-use Rattle.recovery.specs.Runs.{Run, leftBy}
+use Rattle.recovery.specs.Runs.{Call, Run, leftBy}
 use Rattle.recovery.proofs.Asked.{init-fine}
 use Rattle.recovery.proofs.ByLog.{as-on-chip, left-by-log}
 use Rattle.recovery.proofs.Whole.{ends, whole}
@@ -87,8 +85,8 @@ unfolding initBy soundly onDevice
 unsound d config w e = rw e
 
 -- ---- a run that is accepted
-module _ {config : Config} {d : BQ769x0} {w : Wired} (run : Run stepsFor config d w) (m : Matches (d .link) (w .chip))
-    (bytes : Bytes (w .chip .regs)) (v : Values) (accepted : asInit (run .gave .answer) ≡ value v) where
+module _ {config : Config} {d : BQ769x0} {w : Wired} {call : Call} (run : Run stepsFor config d w call) (m : Matches (d .link) (w .chip))
+    (bytes : Bytes (w .chip .regs)) (v : Values) (accepted : asInit (call .gave .answer) ≡ value v) where
   abbrev c : Chip
   c = w .chip
 
@@ -140,11 +138,11 @@ module _ {config : Config} {d : BQ769x0} {w : Wired} (run : Run stepsFor config 
           above = above-0b (plan .regs) (c .regs) (m .size) all;
         }
 
-  chip-is : leftBy run ≡ p .device .chip
+  chip-is : leftBy w call ≡ p .device .chip
   chip-is = left-by-log run ∙ same .chip
 
   by-plan : (y : Answer InMv) → stepsFor config ≡ y → (z : Answer Planned) → planOn stepsFor config c ≡ z
-      → p ≡ ends config d c y z → value v ≡ p .answer .answer → SetOnChip config v c (leftBy run)
+      → p ≡ ends config d c y z → value v ≡ p .answer .answer → SetOnChip config v c (leftBy w call)
   by-plan (refused r) e z q is told = refused-not (sym (told ∙ ap (λ (r : Reached Wired (Left Values)). r .answer .answer) is))
   by-plan (value steps) e (refused r) q is told =
       refused-not (sym (told ∙ ap (λ (r : Reached Wired (Left Values)). r .answer .answer) is))
@@ -155,26 +153,15 @@ module _ {config : Config} {d : BQ769x0} {w : Wired} (run : Run stepsFor config 
       ∙ ap (λ (l : List ℕ). withRegs c (counted (put (c .regs) 6 l))) (take-all 6 (plan .regs) (omega (arith, all steps e plan q))) in
       subst₂ (λ (u : Values) (x : Chip). SetOnChip config u c x) (sym values) (sym chip) (is-set steps e plan q)
 
-  pub set-on-chip : SetOnChip config v c (leftBy run)
+  pub set-on-chip : SetOnChip config v c (leftBy w call)
   set-on-chip =
       by-plan (stepsFor config) refl (planOn stepsFor config c) refl (whole stepsFor config d c sound m)
       (sym answered ∙ ap (λ (l : Left Values). l .answer) (same .answer))
 
 -- so of a call that kept its promise
-module _ (d : BQ769x0) (config : Config) (tape log : List ℕ) (at : Cursor) (gave : Init) (log′ : List ℕ) where
-  pub on-every-chip : ran (leaves (asInit (gave .answer)) (gave .device)) tape log′ (gave .at)
-      ≡ onTape (initBy stepsFor d config) (busOf tape log at)
-      → SetOnEveryChip d config tape log at gave log′
+module _ (d : BQ769x0) (config : Config) (call : Call) where
+  pub on-every-chip : ran (leaves (asInit (call .gave .answer)) (call .gave .device)) (call .tape) (call .log′) (call .gave .at)
+      ≡ onTape (initBy stepsFor d config) (busOf (call .tape) (call .log) (call .at))
+      → SetOnEveryChip config d call
   on-every-chip promise w rest v m bytes answers room accepted =
-      let run : Run stepsFor config d w = record {
-        tape = tape;
-        log = log;
-        at = at;
-        rest = rest;
-        answers = answers;
-        room = room;
-        gave = gave;
-        log′ = log′;
-        promise = promise;
-      } in
-      (run, refl, refl, set-on-chip run m bytes v accepted)
+      set-on-chip {call = call} (record { rest = rest; answers = answers; room = room; promise = promise }) m bytes v accepted

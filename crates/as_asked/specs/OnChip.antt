@@ -10,16 +10,14 @@ use Rattle.plan.specs.AsAsked.{AsAsked}
 use Rattle.plan.specs.Plan.{Values, asInit}
 use Rattle.plan.specs.Steps.{stepsFor}
 use Rattle.plan.specs.declared.Config.{Config}
-use Rattle.bus.specs.declared.Cursor.{Cursor}
 use Rattle.bq769x0.specs.declared.BQ769x0.{BQ769x0}
 use Rattle.procedure.specs.Init.{initBy}
-use Rattle.setup.specs.declared.left.Init.{Init}
 use Rattle.chip.specs.Chip.{held}
 use Rattle.chip.specs.Devices.{tapeOf}
 use Rattle.chip.specs.OnChip.{Matches, Wired, onWire}
 use Rattle.chip.specs.declared.Chip.{Chip}
 use Rattle.recovery.specs.Recovery.{calibrationOf}
-use Rattle.recovery.specs.Runs.{enough, Run, leftBy}
+use Rattle.recovery.specs.Runs.{Call, enough, leftBy}
 use Rattle.as_asked.specs.Tables.{table05, counting}
 
 pub record SetOnChip (config : Config) (v : Values) (before after : Chip) : Type 0 where
@@ -31,12 +29,12 @@ pub record SetOnChip (config : Config) (v : Values) (before after : Chip) : Type
   pub below : (i : ℕ) → i < 0x05 → getD (after .regs) i 0 ≡ getD (before .regs) i 0
   pub above : (i : ℕ) → 0x0B < i → getD (after .regs) i 0 ≡ getD (before .regs) i 0
 
--- an `init` with this tape and log, which gave this back and left this log: where the tape goes on as a chip answers, on any wire, and there is log
--- enough, it is a run on that chip, and where it is accepted its own log leaves the chip set as asked
-abbrev pub SetOnEveryChip : BQ769x0 → Config → List ℕ → List ℕ → Cursor → Init → List ℕ → Type 0
-SetOnEveryChip d config tape log at gave log′ =
+-- a call of `init`: where the tape goes on as a chip answers, on any wire, the log has room, and it is accepted, its own log leaves that chip set as
+-- asked
+abbrev pub SetOnEveryChip : Config → BQ769x0 → Call → Type 0
+SetOnEveryChip config d call =
     (w : Wired) (rest : List ℕ) (v : Values) → Matches (d .link) (w .chip) → Bytes (w .chip .regs)
-    → drop (at .tape) tape ≡ tapeOf onWire (initBy stepsFor d config) w ++ rest
-    → at .log + enough (d .link .check) ≤ length log
-    → asInit (gave .answer) ≡ value v
-    → (run : Run stepsFor config d w) × (run .gave ≡ gave) × (run .log′ ≡ log′) × SetOnChip config v (w .chip) (leftBy run)
+    → drop (call .at .tape) (call .tape) ≡ tapeOf onWire (initBy stepsFor d config) w ++ rest
+    → call .at .log + enough (d .link .check) ≤ length (call .log)
+    → asInit (call .gave .answer) ≡ value v
+    → SetOnChip config v (w .chip) (leftBy w call)

@@ -20,8 +20,10 @@ at-start c = at-init c .before .before .before .before
 
 returns : tie.Need-returns
 returns c =
-    on-every-chip (at-start c .args .device) (at-start c .args .config) (now (at-start c .args .tape)) (now (at-start c .args .log))
-    (at-start c .args .at) (at-init c .init .result) _ (at-init c .init .ensures)
+    let given = at-start c .args in
+    on-every-chip (given .device) (given .config)
+    (record { tape = now (given .tape); log = now (given .log); at = given .at; gave = at-init c .init .result; log′ = _ })
+    (at-init c .init .ensures)
 
 pub init-on-chip-spec : {M : Type 1} → statement M
 init-on-chip-spec = tie.close (tie.spec init-requires same-length returns)
