@@ -74,7 +74,8 @@ pub fn at_call(e: Error, call: usize) {
     text::aside(b"\n");
 }
 
-// For want of tape, in two parts, between which the call is made once more, on `again` from its start: what it used of the tape and a fault behind.
+// For want of tape. What the call wants is found by making it once more, on `again` from its start: what it used of the tape, and a fault behind. So
+// this begins the words, and `wanted` ends them with the log of that call.
 pub fn wants(e: Error, call: usize, tape: &[u8], at: Cursor, next: Cursor, again: &mut [u8]) {
     named_call(e, call);
     text::aside(b" wants ");
@@ -100,7 +101,7 @@ fn filled(tape: &[u8], from: usize, used: usize, i: usize) -> u8 {
     }
 }
 
-// The transfer wanted, which met the fault and is in the log behind those that were made, and what the tape has.
+// The transfer that met the fault stands in the log behind those that were made.
 pub fn wanted(log: &[u8], tape: &[u8], at: Cursor, next: Cursor) {
     fields::transfer(
         text::ASIDE,
