@@ -18,7 +18,8 @@ use Rattle.bus.specs.Fields.{field, Field, unfield}
 use Rattle.bus.specs.Decoders.{unlog, transfersIn}
 use Rattle.bus.specs.Transfers.{Transfer, write, read, Outcome, done, fault, stopped}
 use Rattle.bus.specs.Transfers.{logField, tapeField, untape, says}
-use Rattle.bus.proofs.Framed.{Made, logged}
+use Rattle.bus.specs.Shown.{Made}
+use Rattle.bus.proofs.Framed.{logged}
 
 -- ---- a field
 

@@ -3,25 +3,19 @@
 -- Assumes nothing.
 use mathlib.Core.Path.{_≡_, refl, sym, _∙_}
 use mathlib.Core.Logic.{_⊎_, inl, inr, ⊎-elim}
-use mathlib.Core.Bool.{Bool, true, false}
 use mathlib.Core.List.{List, [], _∷_, _++_, append-nil}
 use Prim.Native.Nat.{ℕ, _+_, _≤_}
 use native.Mathlib.Nat.{add-zero, add-assoc}
 use native.Mathlib.Omega.{arith}
 use lib.ListN.{length, take, drop, length-append}
-use lib.Dec.{leb}
 use borrow.Author.Tests.{leb-true}
-use Rattle.refusals.specs.Refusal.{Refusal}
 use Rattle.frames.specs.Put.{put}
 use Rattle.frames.proofs.Put.{put-none, length-put, put-put, take-before, take-put, drop-put}
-use Rattle.laws.specs.Choice.{if_then_else_}
 use Rattle.bus.specs.Transfers.{Transfer, Outcome, done, fault, stopped, Bus}
-use Rattle.bus.specs.Transfers.{logField, tapeField, moved, after, answered, outcome}
+use Rattle.bus.specs.Transfers.{logField, tapeField, moved, after, outcome}
 use Rattle.bus.specs.Programs.{Prog, ret, ask, Ran, onTape}
-
--- a transfer made, and how it went
-abbrev pub Made : Type 0
-Made = Transfer × Outcome
+use Rattle.bus.specs.Shown.{Made}
+use Rattle.bus.proofs.Order.{by-room}
 
 -- a stopped transfer was not made
 unfoldable pub made : Transfer → Outcome → List Made → List Made
@@ -65,13 +59,8 @@ Delivered (fault bytes) = Unit
 Delivered (stopped r) = ⊥
 
 -- so there was room for its field
-room-if : (m n : ℕ) (o : Outcome) (r : Refusal) (c : Bool) → leb m n ≡ c → Delivered (if c then o else stopped r) → m ≤ n
-room-if m n o r true e d = leb-true _ _ e
-room-if m n o r false e d = absurd d
-
 room-made : (t : Transfer) (b : Bus) → Delivered (outcome t b) → Room b (logField t)
-unfolding outcome answered
-room-made t b d = room-if _ _ _ _ _ refl d
+room-made t b = by-room t b (λ o. Delivered o → Room b (logField t)) (λ e d. leb-true _ _ e) (λ d. absurd d)
 
 framed-none : (b : Bus) → Framed b b []
 unfolding logged taken

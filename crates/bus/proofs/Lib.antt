@@ -3,10 +3,14 @@ pub mod Always
 pub mod Calls
 pub mod Decoders
 pub mod Example
+pub mod Exchanges
 pub mod Framed
 pub mod Heard
+pub mod OfBytes
 pub mod Order
 pub mod Programs
 pub mod Raws
 pub mod Reading
+pub mod Shown
 pub mod Sized
+pub mod Throughout

@@ -10,7 +10,7 @@ use native.Mathlib.Omega.{arith}
 use lib.Dec.{T, eqb, leb, ltb, eqb→eq, leb→le}
 use lib.ListN.{length, drop, replicate, length-replicate}
 use Rattle.laws.proofs.Tests.{both-right}
-use Rattle.refusals.specs.Refusal.{Refusal, Answer, value, refused, answering, no}
+use Rattle.refusals.specs.Refusal.{Answer, value, refused, answering, no}
 use Rattle.frames.specs.Frames.{readByte, right, dataOf}
 use Rattle.frames.specs.Put.{put}
 use Rattle.frames.proofs.Checked.{length-data}
@@ -18,47 +18,43 @@ use Rattle.frames.proofs.Put.{length-put}
 use Rattle.laws.specs.Choice.{if_then_else_}
 use Rattle.bus.specs.Fields.{Field, unfield}
 use Rattle.bus.specs.Transfers.{Transfer, read, Outcome, done, fault, stopped, Bus}
-use Rattle.bus.specs.Transfers.{logField, wanted, untape, says, answered, outcome}
+use Rattle.bus.specs.Transfers.{wanted, untape, says, outcome}
 use Rattle.bus.specs.Programs.{Prog, ret, Ran, onTape}
 use Rattle.bus.specs.Raw.{Done, sound, refuses, Read, gives, plainly, received, whereRight, checkedly}
 use Rattle.bus.specs.Raw.{plainRead, askFrame, checkedRead, readRaw, readBytes}
 use Rattle.bus.specs.declared.link.Link.{Link}
+use Rattle.bus.proofs.Order.{by-room}
 use Rattle.bus.proofs.Programs.{onTape-bind}
 
-abbrev Sized : ℕ → Outcome → Type 0
+-- what the tape can say to a transfer that wants n bytes; 15, 16 and 17 stop it
+abbrev pub Sized : ℕ → Outcome → Type 0
 Sized n (done bytes) = length bytes ≡ n
 Sized n (fault bytes) = length bytes ≤ n
-Sized n (stopped r) = Unit {0}
+Sized n (stopped r) = leb 15 (r .number) ≡ true
 
 -- ---- the tape
-by-tag : (n : ℕ) (v : List ℕ) (r : Refusal) (a b : Bool) → (T a → length v ≡ n) → (T b → length v ≤ n)
-    → Sized n (if a then done v else if b then fault v else stopped r)
-by-tag n v r true b whole part = whole tt
-by-tag n v r false true whole part = part tt
-by-tag n v r false false whole part = tt
+by-tag : (n : ℕ) (v : List ℕ) (a b : Bool) → (T a → length v ≡ n) → (T b → length v ≤ n)
+    → Sized n (if a then done v else if b then fault v else stopped (no 15 []))
+by-tag n v true b whole part = whole tt
+by-tag n v false true whole part = part tt
+by-tag n v false false whole part = refl
 
 sized-field : (n : ℕ) (f : Option Field) → Sized n (untape n f)
 unfolding untape
-sized-field n none = tt
+sized-field n none = refl
 sized-field n (some f) =
-    by-tag n (f .value) (no 15 [])
+    by-tag n (f .value)
     (eqb (f .tag) 0x01 && eqb (length (f .value)) n) (eqb (f .tag) 0x02 && leb (length (f .value)) n)
     (λ t. eqb→eq (length (f .value)) n (both-right (eqb (f .tag) 0x01) (eqb (length (f .value)) n) t))
     (λ t. leb→le (length (f .value)) n (both-right (eqb (f .tag) 0x02) (leb (length (f .value)) n) t))
 
 sized-said : (n : ℕ) (l : List ℕ) → Sized n (says n l)
 unfolding says
-sized-said n [] = tt
+sized-said n [] = refl
 sized-said n (b ∷ l) = sized-field n (unfield (b ∷ l))
 
-sized-room : (n : ℕ) (l : List ℕ) (r : Refusal) (room : Bool) → Sized n (if room then says n l else stopped r)
-sized-room n l r true = sized-said n l
-sized-room n l r false = tt
-
-sized : (t : Transfer) (b : Bus) → Sized (wanted t) (outcome t b)
-unfolding outcome answered
-sized t b =
-    sized-room (wanted t) (drop (b .at .tape) (b .tape)) _ (leb (b .at .log + length (logField t)) (length (b .log)))
+pub sized : (t : Transfer) (b : Bus) → Sized (wanted t) (outcome t b)
+sized t b = by-room t b (Sized (wanted t)) (λ e. sized-said (wanted t) (drop (b .at .tape) (b .tape))) refl
 
 -- ---- the caller's bytes
 plain-size : (buf : List ℕ) (o : Outcome) → Sized (length buf) o → length (plainly buf o .bytes) ≡ length buf

@@ -4,3 +4,4 @@ pub mod Programs
 pub mod Lent
 pub mod Raw
 pub mod Decoders
+pub mod Shown

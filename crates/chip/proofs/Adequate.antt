@@ -14,7 +14,8 @@ use Rattle.bus.specs.Transfers.{Transfer, Outcome, done, fault, stopped, logFie
 use Rattle.bus.specs.Transfers.{says, Bus, moved, after, answered, outcome}
 use Rattle.bus.specs.Programs.{Prog, ret, ask, onTape}
 use Rattle.bus.proofs.Decoders.{Fitting, says-tape}
-use Rattle.bus.proofs.Framed.{Made, made, history, Room}
+use Rattle.bus.specs.Shown.{Made}
+use Rattle.bus.proofs.Framed.{made, history, Room}
 use Rattle.chip.specs.Devices.{Reached, onDevice, madeOn, logOf, tapeOf}
 
 -- ---- what is moved

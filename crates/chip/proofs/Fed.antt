@@ -17,7 +17,8 @@ use Rattle.bus.specs.Raw.{readBytes, writeRaw}
 use Rattle.bus.specs.declared.link.Link.{Link}
 use Rattle.bus.specs.Decoders.{transfersIn}
 use Rattle.bus.proofs.Decoders.{Short, Fitting, AllShort, transfers-logged}
-use Rattle.bus.proofs.Framed.{Made, logged, taken}
+use Rattle.bus.specs.Shown.{Made}
+use Rattle.bus.proofs.Framed.{logged, taken}
 use Rattle.chip.specs.Devices.{Reached, reached, onDevice, madeOn, logOf, tapeOf}
 use Rattle.chip.specs.Chip.{answers, carried, respond, respondCut}
 use Rattle.chip.specs.OnChip.{Wired, onWire, onChip, fed}

@@ -13,6 +13,7 @@ pub mod Live
 pub mod Logged
 pub mod Logs
 pub mod Makes
+pub mod NotCut
 pub mod Quits
 pub mod Raws
 pub mod RegisterBytes

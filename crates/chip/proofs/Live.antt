@@ -19,7 +19,8 @@ use Rattle.bus.specs.Transfers.{Transfer, Outcome, fault, stopped, logField, ta
 use Rattle.bus.specs.Transfers.{says, Bus, start, busOf, moved, after, answered, outcome}
 use Rattle.bus.specs.Programs.{Prog, ret, ask, Ran, onTape}
 use Rattle.bus.proofs.Decoders.{Short, Fitting, AllShort, transfers-logged}
-use Rattle.bus.proofs.Framed.{Made, logged, Room}
+use Rattle.bus.specs.Shown.{Made}
+use Rattle.bus.proofs.Framed.{logged, Room}
 use Rattle.chip.specs.Devices.{Reached, reached, onDevice, madeOn, logOf, tapeOf}
 use Rattle.chip.specs.Live.{endsIn, passes, ended}
 use Rattle.chip.proofs.Adequate.{moved-moved, room-first, rest-moved, room-moved, outcome-fits, after-fits, adequate, AsOn}

@@ -13,6 +13,7 @@ use Rattle.frames.proofs.Frames.{bytes-readFrame}
 use Rattle.laws.specs.Choice.{if_then_else_}
 use Rattle.bus.specs.Fields.{field}
 use Rattle.bus.specs.Transfers.{Transfer, write, read, Outcome, done, fault, stopped, tapeField}
+use Rattle.bus.proofs.OfBytes.{take-bytes}
 use Rattle.chip.specs.Devices.{Reached, reached}
 use Rattle.chip.specs.Chip.{begun, arrives, stores, agreed, accepted, storedOf, written, acknowledged, held, shows}
 use Rattle.chip.specs.Chip.{answers, carried, respondCut, delivered}
@@ -27,11 +28,6 @@ Sends (read a r n) = Unit {0}
 pub append-bytes : (a b : List ℕ) → Bytes a → Bytes b → Bytes (a ++ b)
 append-bytes [] b h k = k
 append-bytes (x ∷ a) b h k = (h .0, append-bytes a b (h .1) k)
-
-pub take-bytes : (n : ℕ) (l : List ℕ) → Bytes l → Bytes (take n l)
-take-bytes zero l h = tt
-take-bytes (suc n) [] h = tt
-take-bytes (suc n) (x ∷ l) h = (h .0, take-bytes n l (h .1))
 
 pub getD-byte : (l : List ℕ) (i : ℕ) → Bytes l → getD l i 0 < 2 ^ 8
 getD-byte [] i h = omega arith

@@ -22,7 +22,8 @@ use Rattle.bus.specs.declared.link.Link.{Link}
 use Rattle.chip.specs.Devices.{onDevice, tapeOf}
 use Rattle.chip.specs.Chip.{delivered}
 use Rattle.chip.specs.OnChip.{Wired, onWire, onChip}
-use Rattle.chip.proofs.RegisterBytes.{Sends, append-bytes, take-bytes, respond-bytes, tapeField-bytes}
+use Rattle.bus.proofs.OfBytes.{take-bytes, drop-bytes}
+use Rattle.chip.proofs.RegisterBytes.{Sends, append-bytes, respond-bytes, tapeField-bytes}
 
 -- whatever bytes it is answered, it sends bytes, and ends with an answer of which R holds
 pub data Sending {A : Type 0} (R : A → Type 0) : Prog A → Type 0 where
@@ -93,11 +94,6 @@ pub sending-one : {A : Type 0} {R : A → Type 0} {t : Transfer} (f : Outcome �
 sending-one f s h = sends s (λ o b. ends (h o b))
 
 -- ---- the bus's calls
-drop-bytes : (n : ℕ) (l : List ℕ) → Bytes l → Bytes (drop n l)
-drop-bytes zero l h = h
-drop-bytes (suc n) [] h = tt
-drop-bytes (suc n) (x ∷ l) h = drop-bytes n l (h .1)
-
 put-bytes : (l : List ℕ) (at : ℕ) (v : List ℕ) → Bytes l → Bytes v → Bytes (put l at v)
 unfolding put
 put-bytes l at v h k =

@@ -13,16 +13,10 @@ use borrow.Author.Tests.{leb-true}
 use Rattle.numbers.specs.Numbers.{_÷_, _÷↓_, asU32}
 use Rattle.numbers.proofs.Signed.{minus, above, product≤}
 use Rattle.adc.specs.Conversion.{millivolts}
-use Rattle.adc.specs.Trips.{limits, readingOf}
+use Rattle.adc.specs.Trips.{limits}
 use Rattle.adc.specs.declared.transfer.Limits.{Limits}
+use Rattle.plan.specs.AsAsked.{AskedIn}
 use Rattle.plan.specs.Trips.{obtainable}
-
--- the asked reading, and that it is from low to high
-pub record AskedIn (gain : ℕ) (offset : ℤ) (asked low high : ℕ) : Type 0 where
-  pub reading : ℕ
-  pub is : readingOf gain offset asked ≡ pos reading
-  pub least : low ≤ reading
-  pub most : reading ≤ high
 
 between : (asked : ℕ) (l : Limits) → obtainable asked l ≡ true → (l .low .0 ≤ asked) × (asked ≤ l .high .0)
 between asked l e =

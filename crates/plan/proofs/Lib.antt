@@ -2,6 +2,7 @@ pub mod Accepted
 pub mod After
 pub mod Agree
 pub mod Apart
+pub mod AsAsked
 pub mod Asked
 pub mod Bytes
 pub mod Codes

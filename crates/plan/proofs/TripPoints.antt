@@ -18,12 +18,13 @@ use Rattle.protection.specs.declared.scd.SCDThreshold.{SCDThreshold}
 use Rattle.protection.specs.declared.ocd.OCDThreshold.{OCDThreshold}
 use Rattle.adc.specs.Conversion.{millivolts}
 use Rattle.adc.specs.Trips.{ovTrip, uvTrip, readingOf, tripCode}
+use Rattle.plan.specs.AsAsked.{AskedIn}
 use Rattle.plan.specs.Fields.{Fields, readBack}
 use Rattle.plan.specs.Plan.{Planned, planFor}
 use Rattle.plan.specs.Trips.{uvLimits, obtainable}
 use Rattle.plan.specs.declared.Config.{Config}
 use Rattle.plan.proofs.Accepted.{accepted}
-use Rattle.plan.proofs.Asked.{AskedIn, asked-in}
+use Rattle.plan.proofs.Asked.{asked-in}
 use Rattle.plan.proofs.Bytes.{bytes}
 use Rattle.plan.proofs.Needs.{plan-within}
 

@@ -5,4 +5,5 @@ pub mod Registers
 pub mod Plan
 pub mod Exactly
 pub mod Fields
+pub mod AsAsked
 pub mod InNumbers

@@ -1,11 +1,11 @@
 -- The two steps for a configuration, in millivolts across the shunt, and the code's answer in the same terms.
 -- Assumes nothing.
-use Prim.Native.Nat.{ℕ}
+use Prim.Native.Nat.{ℕ, _*_, _/_}
 use mathlib.Core.Bool.{Bool, _||_}
 use mathlib.Core.List.{_++_}
 use lib.Dec.{eqb, ltb}
 use Rattle.refusals.specs.Refusal.{Answer, value, refused, refusedIf, asRefusal}
-use Rattle.protection.specs.Steps.{scdLower, scdUpper, ocdLower, ocdUpper, stepFor}
+use Rattle.protection.specs.Steps.{scdLower, scdUpper, ocdLower, ocdUpper, step, stepFor}
 use Rattle.protection.specs.Scd as scd
 use Rattle.protection.specs.Ocd as ocd
 use Rattle.plan.specs.Order.{_>>=_}
@@ -32,6 +32,13 @@ stepsFor config =
     stepFor (scdLower ++ scdUpper) (config .«scd_threshold» .0) shunt >>= λ scd.
     stepFor (ocdLower ++ ocdUpper) (config .«ocd_threshold» .0) shunt >>= λ ocd.
     value (record { scd = scd; ocd = ocd })
+
+-- the same two where none is refused: the least step of both ranges' lists at or above (amperes × shunt) / 1000, rounded down, or the highest
+abbrev pub scdStep : Config → ℕ
+scdStep config = step (scdLower ++ scdUpper) (config .«scd_threshold» .0 * config .shunt .0 / 1000)
+
+abbrev pub ocdStep : Config → ℕ
+ocdStep config = step (ocdLower ++ ocdUpper) (config .«ocd_threshold» .0 * config .shunt .0 / 1000)
 
 abbrev pub inMv : Steps → InMv
 inMv steps = record { scd = scd.mvOf (steps .scd); ocd = ocd.mvOf (steps .ocd) }

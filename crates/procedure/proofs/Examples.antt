@@ -122,7 +122,12 @@ rows =
     row done tape (value values) done log 32 52 ∷
     []
 
-pub examples : map (λ (e : Row). e .0) rows ≡ map (λ (e : Row). e .1) rows
+-- the scope's example by its answer and record, then by its log; and all of them
+abbrev scope : Ran (Left Values)
+scope = onTape (initBy stepsFor device config) (busOf tape (replicate 52 0) start)
+
+pub examples : (scope .answer ≡ leaves (value values) done) × (scope .bus .log ≡ log)
+    × (map (λ (e : Row). e .0) rows ≡ map (λ (e : Row). e .1) rows)
 unfolding
     deviceFor isSound soundly calibrate onwardBy onward startCounter protect initBy
     order._>>=_ setFor planFor protectFor shuntFor stepsFor tripCodeFor obtainableOr withinFor
@@ -130,4 +135,4 @@ unfolding
     onTape bind _>>=_ proceed readBytes readRaw plainRead plainly
     wrote askWrite send compared verified askBack writeRaw writeFrame framed
     field unfield logField tapeField wanted untape says moved after answered outcome put
-examples = refl
+examples = (refl, refl, refl)

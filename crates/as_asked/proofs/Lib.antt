@@ -1,0 +1,10 @@
+mod Bytes
+mod Calibration
+mod Changing
+mod Short
+mod Shows
+mod Stages
+pub mod Commands
+pub mod Demand2
+pub mod OnChip
+pub mod Reading

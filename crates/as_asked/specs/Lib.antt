@@ -1,0 +1,6 @@
+pub mod Reading
+pub mod Tables
+pub mod Seen
+pub mod Init
+pub mod OnChip
+pub mod Commands

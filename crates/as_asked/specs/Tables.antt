@@ -1,0 +1,127 @@
+-- The register tables of 00, 01, 04 and 05: the fields of a byte, named as the datasheet names them. (That of 06 to 0B is plan's, in Fields.)
+-- Assumes nothing.
+use Prim.Native.Nat.{ℕ}
+use Rattle.adc.specs.Registers.{field}
+
+-- 00: the flags
+pub record SysStat : Type 0 where
+  pub ccReady : ℕ
+  pub reserved : ℕ
+  pub deviceXready : ℕ
+  pub ovrdAlert : ℕ
+  pub uv : ℕ
+  pub ov : ℕ
+  pub scd : ℕ
+  pub ocd : ℕ
+
+abbrev pub sysStat : ℕ → SysStat
+sysStat byte = record {
+  ccReady = field 7 7 byte;
+  reserved = field 6 6 byte;
+  deviceXready = field 5 5 byte;
+  ovrdAlert = field 4 4 byte;
+  uv = field 3 3 byte;
+  ov = field 2 2 byte;
+  scd = field 1 1 byte;
+  ocd = field 0 0 byte;
+}
+
+-- 01: which of cells 5 to 1 are balanced, a bit each
+pub record CellBal1 : Type 0 where
+  pub reserved : ℕ
+  pub cells : ℕ
+
+abbrev pub cellBal1 : ℕ → CellBal1
+cellBal1 byte = record { reserved = field 7 5 byte; cells = field 4 0 byte }
+
+-- 04: a load is there; the converter runs; 1 the thermistor, 0 the die; and the two bits that shut the chip down
+pub record SysCtrl1 : Type 0 where
+  pub loadPresent : ℕ
+  pub reserved65 : ℕ
+  pub adcEn : ℕ
+  pub tempSel : ℕ
+  pub reserved2 : ℕ
+  pub shutA : ℕ
+  pub shutB : ℕ
+
+abbrev pub sysCtrl1 : ℕ → SysCtrl1
+sysCtrl1 byte = record {
+  loadPresent = field 7 7 byte;
+  reserved65 = field 6 5 byte;
+  adcEn = field 4 4 byte;
+  tempSel = field 3 3 byte;
+  reserved2 = field 2 2 byte;
+  shutA = field 1 1 byte;
+  shutB = field 0 0 byte;
+}
+
+-- 05: no delays; the counter runs, or runs once; discharging and charging
+pub record SysCtrl2 : Type 0 where
+  pub delayDis : ℕ
+  pub ccEn : ℕ
+  pub ccOneshot : ℕ
+  pub reserved42 : ℕ
+  pub dsgOn : ℕ
+  pub chgOn : ℕ
+
+abbrev pub sysCtrl2 : ℕ → SysCtrl2
+sysCtrl2 byte = record {
+  delayDis = field 7 7 byte;
+  ccEn = field 6 6 byte;
+  ccOneshot = field 5 5 byte;
+  reserved42 = field 4 2 byte;
+  dsgOn = field 1 1 byte;
+  chgOn = field 0 0 byte;
+}
+
+-- ---- one field as asked, or two, and every other as it was
+abbrev pub withSwitches : ℕ → ℕ → SysCtrl2 → SysCtrl2
+withSwitches dsg chg was = record {
+  delayDis = was .delayDis;
+  ccEn = was .ccEn;
+  ccOneshot = was .ccOneshot;
+  reserved42 = was .reserved42;
+  dsgOn = dsg;
+  chgOn = chg;
+}
+
+abbrev pub withDsgOn : ℕ → SysCtrl2 → SysCtrl2
+withDsgOn on was = withSwitches on (was .chgOn) was
+
+abbrev pub withChgOn : ℕ → SysCtrl2 → SysCtrl2
+withChgOn on was = withSwitches (was .dsgOn) on was
+
+abbrev pub withCounter : ℕ → ℕ → SysCtrl2 → SysCtrl2
+withCounter en oneshot was = record {
+  delayDis = was .delayDis;
+  ccEn = en;
+  ccOneshot = oneshot;
+  reserved42 = was .reserved42;
+  dsgOn = was .dsgOn;
+  chgOn = was .chgOn;
+}
+
+-- the counter on
+abbrev pub counting : SysCtrl2 → SysCtrl2
+counting was = withCounter 1 (was .ccOneshot) was
+
+abbrev pub withConverter : ℕ → ℕ → SysCtrl1 → SysCtrl1
+withConverter adc temp was = record {
+  loadPresent = was .loadPresent;
+  reserved65 = was .reserved65;
+  adcEn = adc;
+  tempSel = temp;
+  reserved2 = was .reserved2;
+  shutA = was .shutA;
+  shutB = was .shutB;
+}
+
+abbrev pub withAdcEn : ℕ → SysCtrl1 → SysCtrl1
+withAdcEn on was = withConverter on (was .tempSel) was
+
+abbrev pub withTempSel : ℕ → SysCtrl1 → SysCtrl1
+withTempSel source was = withConverter (was .adcEn) source was
+
+-- ---- 04 with these shut bits, and 0 in every other field
+abbrev pub shutting : ℕ → ℕ → SysCtrl1
+shutting a b = record { loadPresent = 0; reserved65 = 0; adcEn = 0; tempSel = 0; reserved2 = 0; shutA = a; shutB = b }
