@@ -29,7 +29,7 @@ use Rattle.bq769x0.specs.Registers.{soundly}
 use Rattle.bq769x0.specs.declared.BQ769x0.{BQ769x0}
 use Rattle.commands.specs.Registers.{readRegister, writing, changing}
 use Rattle.as_asked.specs.Seen.{given}
-use Rattle.as_asked.specs.Commands.{wrote, Changes, untouched, stands, changed, InTurn}
+use Rattle.as_asked.specs.Commands.{onlyWrote, Changes, untouched, stands, changed, InTurn}
 use Rattle.as_asked.proofs.Bytes.{data-bytes, one-byte}
 use Rattle.as_asked.proofs.Calibration.{of, given-here}
 
@@ -95,7 +95,7 @@ module _ {Table : Type 0} (same : Table → Table → Bool) (same-is : (x y : Ta
         changed was now (is-given h) (same-is _ _ (is-right h (some now) e ok)) (then-writes h ∙ q .0) (value tt)
     by-write now e (refused r) h q ok =
         ⊎-elim (λ (w : writes (link .check) h ≡ []). untouched r (then-writes h ∙ w))
-        (λ (w : writes (link .check) h ≡ wrote link reg now).
+        (λ (w : writes (link .check) h ≡ onlyWrote link reg now).
         changed was now (is-given h) (same-is _ _ (is-right h (some now) e ok)) (then-writes h ∙ w) (refused r))
         (q .0)
 

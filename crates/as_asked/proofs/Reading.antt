@@ -14,7 +14,7 @@ use Rattle.frames.proofs.Frames.{length-readFrame}
 use Rattle.bus.specs.Transfers.{read, done, Bus, busOf}
 use Rattle.bus.specs.Programs.{Ran, ran, onTape}
 use Rattle.bus.specs.Raw.{Done, Read, gives, asRaw, readRaw}
-use Rattle.bus.specs.Shown.{shown}
+use Rattle.bus.specs.Shown.{madeBetween}
 use Rattle.bus.specs.declared.Cursor.{Cursor}
 use Rattle.bus.specs.declared.link.Link.{Link}
 use Rattle.bus.specs.declared.link.Raw.{Raw}
@@ -47,7 +47,7 @@ module _ (link : Link) (reg : ℕ) (buf tape log : List ℕ) (at : Cursor) (gave
       let is : given (onTape (readRaw link reg buf) b .answer) ≡ value bytes =
       sym (ap (λ (r : Ran Read). given (r .answer)) promise) ∙ ap (λ (a : Answer Done). answering a bytes) accepted in
       let made = subst (λ (y : Answer (List ℕ)). ReadSeen (link .check) (link .address) reg (length buf) y (history (readRaw link reg buf) b)) is seen in
-      ap (λ (r : Ran Read). shown tape (r .bus .log) at (r .bus .at)) promise
+      ap (λ (r : Ran Read). madeBetween tape (r .bus .log) at (r .bus .at)) promise
       ∙ shown-made (readRaw link reg buf) b (all-short (asks-read link reg buf (λ k h. omega arith)) b)
       ∙ ap some (made .0)
       ∙ ap (λ (n : ℕ). some ((read (link .address) reg n, done (readFrame (link .check) (link .address) bytes)) ∷ []))

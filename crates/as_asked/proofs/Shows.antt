@@ -7,7 +7,7 @@ use Rattle.check_byte.specs.CheckByte.{Bytes}
 use Rattle.refusals.specs.Refusal.{Answer}
 use Rattle.bus.specs.Transfers.{Bus}
 use Rattle.bus.specs.Programs.{Prog, Ran, ran, onTape}
-use Rattle.bus.specs.Shown.{Made, shown}
+use Rattle.bus.specs.Shown.{Made, madeBetween}
 use Rattle.bus.specs.declared.Cursor.{Cursor}
 use Rattle.bus.proofs.Decoders.{Short}
 use Rattle.bus.proofs.Framed.{history}
@@ -26,7 +26,7 @@ pub shows : {A B : Type 0} (P : List Made → Answer B → Type 0) (f : A → An
 shows {A} P f p b a to promise short holds bytes = record {
   seen = history p b;
   reads-back =
-      ap (λ (r : Ran A). shown (b .tape) (r .bus .log) (b .at) (r .bus .at)) promise
+      ap (λ (r : Ran A). madeBetween (b .tape) (r .bus .log) (b .at) (r .bus .at)) promise
       ∙ shown-made p b (all-short short b);
   holds =
       subst (P (history p b)) (sym (ap (λ (r : Ran A). f (r .answer)) promise))

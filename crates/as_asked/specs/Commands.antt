@@ -17,8 +17,8 @@ use Rattle.as_asked.specs.Seen.{given}
 use Rattle.as_asked.specs.Tables.{SysCtrl2, sysStat, sysCtrl1, withCounter, shutting}
 
 -- the one register that a run wrote, and its byte
-abbrev pub wrote : Link → ℕ → ℕ → List Access
-wrote link reg byte = access (link .address) reg (byte ∷ []) ∷ []
+abbrev pub onlyWrote : Link → ℕ → ℕ → List Access
+onlyWrote link reg byte = access (link .address) reg (byte ∷ []) ∷ []
 
 -- ---- a command that reads its register first and changes a field of it; by a table of the register, and what that is to become
 module _ {Table : Type 0} (table : ℕ → Table) (asked : Table → Table) (link : Link) (reg : ℕ) (seen : List Made) where
@@ -30,7 +30,7 @@ module _ {Table : Type 0} (table : ℕ → Table) (asked : Table → Table) (lin
         → Changes (value tt)
     -- it is written, and no other is: what was read of it, with the field as asked; and then the write is accepted or refused
     changed : (was now : ℕ) → given link seen reg ≡ was ∷ [] → table now ≡ asked (table was)
-        → writes (link .check) seen ≡ wrote link reg now → (y : Answer Done) → Changes y
+        → writes (link .check) seen ≡ onlyWrote link reg now → (y : Answer Done) → Changes y
 
 -- ---- a command that writes its register whole, once or more: the first of these bytes, in order, and all where it is accepted
 pub record InTurn (bytes : List ℕ) (link : Link) (reg : ℕ) (seen : List Made) (y : Answer Done) : Type 0 where

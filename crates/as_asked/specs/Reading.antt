@@ -9,7 +9,7 @@ use lib.ListN.{length}
 use Rattle.refusals.specs.Refusal.{value}
 use Rattle.frames.specs.Frames.{readFrame}
 use Rattle.bus.specs.Raw.{asRaw}
-use Rattle.bus.specs.Shown.{shown}
+use Rattle.bus.specs.Shown.{madeBetween}
 use Rattle.bus.specs.Transfers.{read, done}
 use Rattle.bus.specs.declared.Cursor.{Cursor}
 use Rattle.bus.specs.declared.link.Link.{Link}
@@ -20,4 +20,4 @@ abbrev pub ExactlyRead : Link → ℕ → List ℕ → Cursor → Raw → List �
 ExactlyRead link reg tape at gave log′ bytes =
     let frame = readFrame (link .check) (link .address) bytes in
     asRaw (gave .answer) ≡ value tt → 1 ≤ length bytes
-    → shown tape log′ at (gave .at) ≡ some ((read (link .address) reg (length frame), done frame) ∷ [])
+    → madeBetween tape log′ at (gave .at) ≡ some ((read (link .address) reg (length frame), done frame) ∷ [])

@@ -11,7 +11,7 @@ use Rattle.laws.specs.Choice.{if_then_else_}
 use Rattle.refusals.specs.Refusal.{Answer}
 use Rattle.adc.specs.Registers.{calibration}
 use Rattle.adc.specs.declared.transfer.AdcTransferFunction.{AdcTransferFunction}
-use Rattle.bus.specs.Shown.{Made, shown, reads, firstOf}
+use Rattle.bus.specs.Shown.{Made, madeBetween, reads, firstOf}
 use Rattle.bus.specs.declared.Cursor.{Cursor}
 use Rattle.bus.specs.declared.link.Link.{Link}
 
@@ -31,5 +31,5 @@ module _ (link : Link) (seen : List Made) where
 -- these, with what the tape said to them, P holds beside the answer
 pub record Shows {A : Type 0} (P : List Made → Answer A → Type 0) (tape log′ : List ℕ) (from to : Cursor) (answer : Answer A) : Type 0 where
   pub seen : List Made
-  pub reads-back : shown tape log′ from to ≡ some seen
+  pub reads-back : madeBetween tape log′ from to ≡ some seen
   pub holds : P seen answer

@@ -1,7 +1,7 @@
 -- The register tables of 00, 01, 04 and 05: the fields of a byte, named as the datasheet names them. (That of 06 to 0B is plan's, in Fields.)
 -- Assumes nothing.
 use Prim.Native.Nat.{ℕ}
-use Rattle.adc.specs.Registers.{field}
+use Rattle.adc.specs.Registers.{bitField}
 
 -- 00: the flags
 pub record SysStat : Type 0 where
@@ -16,14 +16,14 @@ pub record SysStat : Type 0 where
 
 abbrev pub sysStat : ℕ → SysStat
 sysStat byte = record {
-  ccReady = field 7 7 byte;
-  reserved = field 6 6 byte;
-  deviceXready = field 5 5 byte;
-  ovrdAlert = field 4 4 byte;
-  uv = field 3 3 byte;
-  ov = field 2 2 byte;
-  scd = field 1 1 byte;
-  ocd = field 0 0 byte;
+  ccReady = bitField 7 7 byte;
+  reserved = bitField 6 6 byte;
+  deviceXready = bitField 5 5 byte;
+  ovrdAlert = bitField 4 4 byte;
+  uv = bitField 3 3 byte;
+  ov = bitField 2 2 byte;
+  scd = bitField 1 1 byte;
+  ocd = bitField 0 0 byte;
 }
 
 -- 01: which of cells 5 to 1 are balanced, a bit each
@@ -32,7 +32,7 @@ pub record CellBal1 : Type 0 where
   pub cells : ℕ
 
 abbrev pub cellBal1 : ℕ → CellBal1
-cellBal1 byte = record { reserved = field 7 5 byte; cells = field 4 0 byte }
+cellBal1 byte = record { reserved = bitField 7 5 byte; cells = bitField 4 0 byte }
 
 -- 04: a load is there; the converter runs; 1 the thermistor, 0 the die; and the two bits that shut the chip down
 pub record SysCtrl1 : Type 0 where
@@ -46,13 +46,13 @@ pub record SysCtrl1 : Type 0 where
 
 abbrev pub sysCtrl1 : ℕ → SysCtrl1
 sysCtrl1 byte = record {
-  loadPresent = field 7 7 byte;
-  reserved65 = field 6 5 byte;
-  adcEn = field 4 4 byte;
-  tempSel = field 3 3 byte;
-  reserved2 = field 2 2 byte;
-  shutA = field 1 1 byte;
-  shutB = field 0 0 byte;
+  loadPresent = bitField 7 7 byte;
+  reserved65 = bitField 6 5 byte;
+  adcEn = bitField 4 4 byte;
+  tempSel = bitField 3 3 byte;
+  reserved2 = bitField 2 2 byte;
+  shutA = bitField 1 1 byte;
+  shutB = bitField 0 0 byte;
 }
 
 -- 05: no delays; the counter runs, or runs once; discharging and charging
@@ -66,12 +66,12 @@ pub record SysCtrl2 : Type 0 where
 
 abbrev pub sysCtrl2 : ℕ → SysCtrl2
 sysCtrl2 byte = record {
-  delayDis = field 7 7 byte;
-  ccEn = field 6 6 byte;
-  ccOneshot = field 5 5 byte;
-  reserved42 = field 4 2 byte;
-  dsgOn = field 1 1 byte;
-  chgOn = field 0 0 byte;
+  delayDis = bitField 7 7 byte;
+  ccEn = bitField 6 6 byte;
+  ccOneshot = bitField 5 5 byte;
+  reserved42 = bitField 4 2 byte;
+  dsgOn = bitField 1 1 byte;
+  chgOn = bitField 0 0 byte;
 }
 
 -- ---- one field as asked, or two, and every other as it was

@@ -24,7 +24,7 @@ use Rattle.bus.specs.Programs.{Prog, ret, ask}
 use Rattle.bus.specs.Raw.{Done, sound, refuses, Read, gives, plainly, received, whereRight, checkedly}
 use Rattle.bus.specs.Raw.{plainRead, askFrame, checkedRead, readRaw, readBytes}
 use Rattle.bus.specs.Raw.{wrote, askWrite, send, compared, verified, askBack, writeRaw}
-use Rattle.bus.specs.Shown.{Made, Access, access, carried, gotBy, sentBy, reads, writes, firstOf}
+use Rattle.bus.specs.Shown.{Made, Access, access, dataIn, gotBy, sentBy, reads, writes, firstOf}
 use Rattle.bus.specs.declared.link.Link.{Link}
 use Rattle.bus.proofs.Framed.{made}
 use Rattle.bus.proofs.Reading.{onBus, readBy, only-frame}
@@ -103,7 +103,7 @@ either-none false = refl
 
 wrong-made : (address reg n : ℕ) (bytes : List ℕ) → right (readByte address ∷ []) bytes ≡ false
     → Silent true ((read address reg n, done bytes) ∷ [])
-unfolding writes reads sentBy gotBy carried
+unfolding writes reads sentBy gotBy dataIn
 wrong-made address reg n bytes e = record {
   unwritten = refl;
   unread = λ a r. rw e (either-none (eqb address a && eqb reg r));
@@ -180,8 +180,8 @@ module _ (s : Link) (reg : ℕ) where
       (subst (λ (k : ℕ). ReadSeen (s .check) (s .address) reg k (given r) h) size q))
 
 -- what a frame that was made of bytes carries is these bytes
-carried-framed : (check : Bool) (before bytes : List ℕ) → carried check before (framed check before bytes) ≡ bytes
-unfolding carried framed
+carried-framed : (check : Bool) (before bytes : List ℕ) → dataIn check before (framed check before bytes) ≡ bytes
+unfolding dataIn framed
 carried-framed false before bytes = refl
 carried-framed true before bytes = rw (right-checked before bytes, data-checked before bytes)
 

@@ -15,7 +15,7 @@ use Rattle.bus.specs.Transfers.{Transfer, Outcome, done, fault, stopped,
 use Rattle.bus.specs.Transfers.{moved, after, outcome}
 use Rattle.bus.specs.Programs.{Prog, ret, ask, onTape}
 use Rattle.bus.specs.Decoders.{transfersIn}
-use Rattle.bus.specs.Shown.{Made, withTape, shown, reads, writes}
+use Rattle.bus.specs.Shown.{Made, withTape, madeBetween, reads, writes}
 use Rattle.bus.proofs.Order.{by-room}
 use Rattle.bus.proofs.Framed.{made, history, logged, Framed, framed, log-now}
 use Rattle.bus.proofs.Decoders.{AllShort, transfers-logged}
@@ -76,8 +76,8 @@ added {b} {b′} {h} f =
     (f .room)
 
 pub shown-made : {A : Type 0} (p : Prog A) (b : Bus) → AllShort (history p b)
-    → shown (b .tape) (onTape p b .bus .log) (b .at) (onTape p b .bus .at) ≡ some (history p b)
-unfolding shown
+    → madeBetween (b .tape) (onTape p b .bus .log) (b .at) (onTape p b .bus .at) ≡ some (history p b)
+unfolding madeBetween
 shown-made p b short =
     let h = history p b in
     let on-log : transfersIn (length (logged h)) (logged h) ≡ some (transfers h) = transfers-logged h _ short (omega arith) in

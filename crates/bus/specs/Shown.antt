@@ -23,8 +23,8 @@ withTape [] tape = []
 withTape (t ∷ ts) tape = (t, says (wanted t) tape) ∷ withTape ts (drop (length (tapeField (says (wanted t) tape))) tape)
 
 -- what was made between two positions of a tape and a log; none where the log's bytes between them are no transfers' fields
-unfoldable pub shown : List ℕ → List ℕ → Cursor → Cursor → Option (List Made)
-shown tape log from to =
+unfoldable pub madeBetween : List ℕ → List ℕ → Cursor → Cursor → Option (List Made)
+madeBetween tape log from to =
     let bytes = drop (from .log) (take (to .log) log) in
     Option·map (λ (ts : List Transfer). withTape ts (drop (from .tape) tape)) (transfersIn (length bytes) bytes)
 
@@ -39,21 +39,21 @@ abbrev pub access : ℕ → ℕ → List ℕ → Access
 access address register bytes = record { address = address; register = register; bytes = bytes }
 
 -- the data of bytes that came behind those before: with checks of a right frame, and none of any other
-unfoldable pub carried : Bool → List ℕ → List ℕ → List ℕ
-carried false before bytes = bytes
-carried true before bytes = if right before bytes then dataOf bytes else []
+unfoldable pub dataIn : Bool → List ℕ → List ℕ → List ℕ
+dataIn false before bytes = bytes
+dataIn true before bytes = if right before bytes then dataOf bytes else []
 
 module _ (check : Bool) where
   unfoldable pub gotBy : Transfer → Outcome → List Access
   gotBy (write a bytes) o = []
-  gotBy (read a r n) (done bytes) = access a r (carried check (readByte a ∷ []) bytes) ∷ []
+  gotBy (read a r n) (done bytes) = access a r (dataIn check (readByte a ∷ []) bytes) ∷ []
   gotBy (read a r n) (fault bytes) = []
   gotBy (read a r n) (stopped x) = []
 
   -- whatever came of it
   unfoldable pub sentBy : Transfer → List Access
   sentBy (write a []) = []
-  sentBy (write a (r ∷ bytes)) = access a r (carried check (writeByte a ∷ r ∷ []) bytes) ∷ []
+  sentBy (write a (r ∷ bytes)) = access a r (dataIn check (writeByte a ∷ r ∷ []) bytes) ∷ []
   sentBy (read a r n) = []
 
   -- what was read, and what was written, in order

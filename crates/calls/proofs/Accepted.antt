@@ -18,7 +18,7 @@ use Rattle.job.specs.Encoding.{deviceValue, field}
 use Rattle.job.specs.declared.Device.{Device}
 use Rattle.job.proofs.Accepted.{device-alone, device-alone-written, from-drop}
 use Rattle.calls.specs.Shapes.{shapeOf, lawful}
-use Rattle.calls.specs.Heads.{lengthOf, valueOf, isWhole, fieldOf, isEnd, isCall, endFrom, headed, headOf}
+use Rattle.calls.specs.Heads.{lengthOf, valueOf, isWhole, fieldOf, isEnd, isCall, endFrom, headed, headingOf}
 use Rattle.calls.specs.Encoding.{Call, callFields, headBytes, Lawful}
 use Rattle.calls.specs.declared.Field.{Field}
 use Rattle.calls.specs.declared.Heading.{Heading}
@@ -114,7 +114,7 @@ module _ (d : Device) (cs : List Call) (tape : List ℕ) where
   after-length = omega (arith, length-append (callFields cs) (field 0x3F [] ++ tape))
 
   pub head-read : Lawful cs
-      → headOf (headBytes d cs ++ tape) ≡ value (record { device = d; «tape_at» = length (headBytes d cs) })
+      → headingOf (headBytes d cs ++ tape) ≡ value (record { device = d; «tape_at» = length (headBytes d cs) })
   head-read l =
       rw (all-is, head-length)
       (both-read (field 0x20 (deviceValue d) ++ after) d _ (device-alone d after)
@@ -235,6 +235,6 @@ module _ (bytes : List ℕ) (small : (i : ℕ) → byteAt bytes i < 256) where
   head-by h (value d) (refused r) hd hf q = refused-not q
   head-by h (refused r) f hd hf q = refused-not q
 
-  pub head-written : (h : Heading) → headOf bytes ≡ value h → Written bytes h
-  unfolding headOf
+  pub head-written : (h : Heading) → headingOf bytes ≡ value h → Written bytes h
+  unfolding headingOf
   head-written h q = head-by h (deviceFor bytes) (endFrom (length bytes) 7 (drop 7 bytes)) refl refl q

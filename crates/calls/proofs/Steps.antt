@@ -16,7 +16,7 @@ use Rattle.refusals.proofs.Values.{refused-not, same-value}
 use Rattle.job.specs.Jobs.{byteAt, isDevice, deviceOf, deviceFor}
 use Rattle.job.specs.declared.Device.{Device}
 use Rattle.calls.specs.Shapes.{lawful}
-use Rattle.calls.specs.Heads.{lengthOf, valueOf, isWhole, fieldOf, fieldAt, isEnd, isCall, endFrom, headOf}
+use Rattle.calls.specs.Heads.{lengthOf, valueOf, isWhole, fieldOf, fieldAt, isEnd, isCall, endFrom, headingOf}
 use Rattle.calls.specs.declared.Field.{Field}
 
 -- ---- the field at a place, by the input's own bytes
@@ -114,22 +114,22 @@ device-only-by : (b : Bool) (d : Device) (r : Refusal)
 device-only-by true d r e = refused-not (sym e)
 device-only-by false d r e = refl
 
-pub no-device : (bytes : List ℕ) (r : Refusal) → deviceFor bytes ≡ refused r → headOf bytes ≡ refused (no 15 [])
-unfolding headOf deviceFor
+pub no-device : (bytes : List ℕ) (r : Refusal) → deviceFor bytes ≡ refused r → headingOf bytes ≡ refused (no 15 [])
+unfolding headingOf deviceFor
 no-device bytes r e = rw (device-only-by (isDevice bytes) (deviceOf bytes) r e)
 
 pub no-end : (bytes : List ℕ) (d : Device) (r : Refusal)
     → deviceFor bytes ≡ value d
     → endFrom (length bytes) 7 (drop 7 bytes) ≡ refused r
-    → headOf bytes ≡ refused (no 15 [])
-unfolding headOf
+    → headingOf bytes ≡ refused (no 15 [])
+unfolding headingOf
 no-end bytes d r e q = rw (e, only-15 (length bytes) 7 (drop 7 bytes) r q)
 
 pub both-read : (bytes : List ℕ) (d : Device) (f : Field)
     → deviceFor bytes ≡ value d
     → endFrom (length bytes) 7 (drop 7 bytes) ≡ value f
-    → headOf bytes ≡ value (record { device = d; «tape_at» = f .start })
-unfolding headOf
+    → headingOf bytes ≡ value (record { device = d; «tape_at» = f .start })
+unfolding headingOf
 both-read bytes d f e q = rw (e, q)
 
 -- ---- the same by a field that was found

@@ -57,8 +57,8 @@ headed (value device) (value end) = value (record { device = device; «tape_at»
 headed (value device) (refused r) = refused r
 headed (refused r) end = refused r
 
-unfoldable pub headOf : List ℕ → Answer Heading
-headOf bytes = headed (deviceFor bytes) (endFrom (length bytes) 7 (drop 7 bytes))
+unfoldable pub headingOf : List ℕ → Answer Heading
+headingOf bytes = headed (deviceFor bytes) (endFrom (length bytes) 7 (drop 7 bytes))
 
 abbrev pub asHead : HeadAnswer → Answer Heading
 asHead (H.Wanted heading) = value heading

@@ -26,8 +26,8 @@ asCut (C.After n) = some n
 unfoldable pub transferOf : List ℕ → Option Transfer
 transferOf bytes = bind (unfield bytes) λ f. if eqb (length (f .rest)) 0 then unlog f else none
 
-abbrev pub answered : Chip → ℕ → Answered
-answered c end = record { chip = c; end = end }
+abbrev pub answeredWith : Chip → ℕ → Answered
+answeredWith c end = record { chip = c; end = end }
 
 -- done, or a fault, with these bytes
 abbrev pub saying : Bool → List ℕ → Outcome
@@ -39,12 +39,12 @@ unfoldable pub tells : Chip → Reached Chip Outcome → List ℕ → ℕ → Li
 tells c r tape end =
     let said = tapeField (r .answer) in
     if leb (end + length said) (length tape)
-    then (put tape end said, answered (r .device) (end + length said))
-    else (tape, answered c end)
+    then (put tape end said, answeredWith (r .device) (end + length said))
+    else (tape, answeredWith c end)
 
 -- the same of the transfer that a log field reads back as; other bytes change nothing
 abbrev tellsOf : Option ℕ → Chip → Option Transfer → List ℕ → ℕ → List ℕ × Answered
-tellsOf cut c none tape end = (tape, answered c end)
+tellsOf cut c none tape end = (tape, answeredWith c end)
 tellsOf cut c (some t) tape end = tells c (respondCut cut c t) tape end
 
 unfoldable pub answerOn : Option ℕ → Chip → List ℕ → List ℕ → ℕ → List ℕ × Answered

@@ -17,7 +17,7 @@ use Rattle.numbers.proofs.Bytes.{word4-four, four-word4}
 use Rattle.refusals.specs.Refusal.{value, refused, no}
 use Rattle.refusals.proofs.Values.{refused-not, same-value}
 use Rattle.job.specs.Jobs.{byteAt, numberAt, isDevice, codesAt, isJob, deviceOf, configOf, deviceFor, jobOf}
-use Rattle.job.specs.Encoding.{zeroOrOne, deviceValue, configValue, field, fieldsOf}
+use Rattle.job.specs.Encoding.{zeroOrOne, deviceValue, configValue, field, jobBytes}
 use Rattle.job.specs.declared.Device.{Device}
 use Rattle.job.specs.declared.Job.{Job}
 use Rattle.job.proofs.Codes.{scd-coded, ocd-coded, uv-coded, ov-coded}
@@ -40,14 +40,14 @@ device-alone d rest =
 
 module _ (j : Job) (tape : List ℕ) where
   abbrev bytes : List ℕ
-  bytes = fieldsOf j ++ tape
+  bytes = jobBytes j ++ tape
 
   long : 34 ≤ length bytes
-  unfolding fieldsOf four
+  unfolding jobBytes four
   long = omega arith
 
   is-job : isJob bytes ≡ true
-  unfolding isJob isDevice codesAt fieldsOf four
+  unfolding isJob isDevice codesAt jobBytes four
   is-job =
       let c = j .config in
       rw (
@@ -61,11 +61,11 @@ module _ (j : Job) (tape : List ℕ) where
       )
 
   device-read : deviceOf bytes ≡ j .device
-  unfolding fieldsOf four
+  unfolding jobBytes four
   device-read = rw (check-read (j .device .check))
 
   config-read : configOf bytes ≡ j .config
-  unfolding fieldsOf four
+  unfolding jobBytes four
   config-read =
       let c = j .config in
       rw (
@@ -81,7 +81,7 @@ module _ (j : Job) (tape : List ℕ) where
       )
 
   pub tape-follows : drop 34 bytes ≡ tape
-  unfolding fieldsOf four
+  unfolding jobBytes four
   tape-follows = refl
 
   pub job-read : jobOf bytes ≡ value j
@@ -146,18 +146,19 @@ module _ (bytes : List ℕ) (small : (i : ℕ) → byteAt bytes i < 256) where
         low 8 24 (t .config .sized) (omega arith),
       )
 
-  written : Tested bytes → bytes ≡ fieldsOf found ++ drop 34 bytes
-  unfolding fieldsOf
+  written : Tested bytes → bytes ≡ jobBytes found ++ drop 34 bytes
+  unfolding jobBytes
   written t =
       from-drop bytes 0 34 (t .codes .0)
       ∙ ap (λ (d : List ℕ). (d ++ from bytes 7 27) ++ drop 34 bytes) (sym (device-written (t .device) (t .check)))
       ∙ ap (λ (c : List ℕ). (field 0x20 (deviceValue (deviceOf bytes)) ++ c) ++ drop 34 bytes) (sym (config-written t))
 
-  job-if : (b : Bool) → isJob bytes ≡ b → (j : Job) → cond b (value found) (refused (no 15 [])) ≡ value j → bytes ≡ fieldsOf j ++ drop 34 bytes
-  job-if true e j q = subst (λ (k : Job). bytes ≡ fieldsOf k ++ drop 34 bytes) (same-value q) (written (tested bytes e))
+  job-if : (b : Bool) → isJob bytes ≡ b → (j : Job)
+      → cond b (value found) (refused (no 15 [])) ≡ value j → bytes ≡ jobBytes j ++ drop 34 bytes
+  job-if true e j q = subst (λ (k : Job). bytes ≡ jobBytes k ++ drop 34 bytes) (same-value q) (written (tested bytes e))
   job-if false e j q = refused-not q
 
-  pub job-written : (j : Job) → jobOf bytes ≡ value j → bytes ≡ fieldsOf j ++ drop 34 bytes
+  pub job-written : (j : Job) → jobOf bytes ≡ value j → bytes ≡ jobBytes j ++ drop 34 bytes
   unfolding jobOf
   job-written j q = job-if (isJob bytes) refl j q
 

@@ -12,7 +12,7 @@ use Rattle.protection.specs.declared.delays.OVDelay.the-variants as W
 use Rattle.refusals.specs.Refusal.{value, refused, no}
 use Rattle.job.specs.Jobs.{isDevice, codesAt, isJob, jobOf}
 use Rattle.numbers.specs.Numbers.{four}
-use Rattle.job.specs.Encoding.{fieldsOf}
+use Rattle.job.specs.Encoding.{jobBytes}
 use Rattle.job.specs.declared.Job.{Job}
 
 abbrev bytes : List ℕ
@@ -46,8 +46,8 @@ pub example-read : jobOf bytes ≡ value job
 unfolding jobOf isJob isDevice codesAt
 example-read = refl
 
-pub example-written : fieldsOf job ≡ bytes
-unfolding fieldsOf four
+pub example-written : jobBytes job ≡ bytes
+unfolding jobBytes four
 example-written = refl
 
 -- a byte short, check 2, a field 21 of 23 bytes, SCD code 4

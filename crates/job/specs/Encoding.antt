@@ -31,5 +31,5 @@ configValue c =
     ++ four (c .«ov_threshold» .0)
     ++ scdCode (c .«scd_delay») ∷ ocdCode (c .«ocd_delay») ∷ uvCode (c .«uv_delay») ∷ ovCode (c .«ov_delay») ∷ []
 
-unfoldable pub fieldsOf : Job → List ℕ
-fieldsOf j = field 0x20 (deviceValue (j .device)) ++ field 0x21 (configValue (j .config))
+unfoldable pub jobBytes : Job → List ℕ
+jobBytes j = field 0x20 (deviceValue (j .device)) ++ field 0x21 (configValue (j .config))

@@ -6,7 +6,7 @@ use Rattle.protection.specs.Delays.{scdBits, ocdBits, uvBits, ovBits}
 use Rattle.protection.specs.Ranges.{rangeBits, codeFor}
 use Rattle.protection.specs.Steps.{scdLower, scdUpper, ocdLower, ocdUpper}
 use Rattle.protection.specs.declared.range.OCDSCDRange.{OCDSCDRange}
-use Rattle.plan.specs.Order.{_>>=_}
+use Rattle.plan.specs.Order.{_andThen_}
 use Rattle.plan.specs.declared.Config.{Config}
 use Rattle.plan.specs.declared.six_bytes.Protect.{Protect}
 use Rattle.plan.specs.declared.six_bytes.ProtectAnswer.{ProtectAnswer}
@@ -24,9 +24,9 @@ protectOf config rangeBit scdCode ocdCode = record {
 -- each code from the list of the range used; range Unknown is 20
 unfoldable pub protectFor : Config → ℕ → ℕ → OCDSCDRange → Answer Protect
 protectFor config scd ocd range =
-    rangeBits range >>= λ rangeBit.
-    codeFor scdLower scdUpper range scd >>= λ scdCode.
-    codeFor ocdLower ocdUpper range ocd >>= λ ocdCode.
+    rangeBits range andThen λ rangeBit.
+    codeFor scdLower scdUpper range scd andThen λ scdCode.
+    codeFor ocdLower ocdUpper range ocd andThen λ ocdCode.
     value (protectOf config rangeBit scdCode ocdCode)
 
 abbrev pub asProtect : ProtectAnswer → Answer Protect

@@ -10,7 +10,7 @@ use lib.Seq.{take-all}
 use borrow.Author.Tests.{le-ltb}
 use Rattle.bus.proofs.Raws.{verified-done}
 use Rattle.refusals.specs.Refusal.{Refusal, Answer, value, refused}
-use Rattle.frames.specs.Frames.{readByte, right, dataOf, writeFrame, written}
+use Rattle.frames.specs.Frames.{readByte, right, dataOf, writeFrame, writtenFrame}
 use Rattle.frames.specs.Put.{put}
 use Rattle.frames.proofs.Frames.{length-writeFrame, written-frame}
 use Rattle.frames.proofs.Put.{length-put, take-front}
@@ -149,8 +149,8 @@ module _ (check : Bool) (address reg : ℕ) (bytes : List ℕ) (few : length byt
       by-check false e = omega arith
 
   module _ (out out′ : List ℕ) (n : ℕ) (room : length out ≡ 17)
-      (size : n ≡ length (written check address reg bytes))
-      (is : out′ ≡ put out 0 (written check address reg bytes)) where
+      (size : n ≡ length (writtenFrame check address reg bytes))
+      (is : out′ ≡ put out 0 (writtenFrame check address reg bytes)) where
     whole : n ≡ length (writeFrame check address reg bytes)
     whole = size ∙ ap length (written-frame check address reg bytes few)
 
