@@ -35,7 +35,7 @@ use Rattle.chip.proofs.Quits.{Refuses, refuses-by}
 use Rattle.chip.proofs.RegisterBytes.{getD-byte}
 use Rattle.chip.proofs.Shows.{held-is, held-put}
 use Rattle.recovery.specs.Recovery.{calibrationOf, planOn, counted}
-use Rattle.recovery.specs.Runs.{Run, leftBy}
+use Rattle.recovery.specs.Runs.{Call, Run, leftBy}
 use Rattle.recovery.proofs.Asked.{init-fine}
 use Rattle.recovery.proofs.ByLog.{as-on-chip, left-by-log}
 use Rattle.recovery.proofs.Whole.{ends, whole}
@@ -83,8 +83,8 @@ unfolding initBy soundly onDevice
 unsound d config w e = rw e
 
 -- ---- a run that is accepted
-module _ {config : Config} {d : BQ769x0} {w : Wired} (run : Run stepsFor config d w) (m : Matches (d .link) (w .chip))
-    (bytes : Bytes (w .chip .regs)) (v : Values) (accepted : asInit (run .gave .answer) ≡ value v) where
+module _ {config : Config} {d : BQ769x0} {w : Wired} {call : Call} (run : Run stepsFor config d w call) (m : Matches (d .link) (w .chip))
+    (bytes : Bytes (w .chip .regs)) (v : Values) (accepted : asInit (call .gave .answer) ≡ value v) where
   abbrev c : Chip
   c = w .chip
 
@@ -136,11 +136,11 @@ module _ {config : Config} {d : BQ769x0} {w : Wired} (run : Run stepsFor config 
           above = above-0b (plan .regs) (c .regs) (m .size) all;
         }
 
-  chip-is : leftBy run ≡ p .device .chip
+  chip-is : leftBy w call ≡ p .device .chip
   chip-is = left-by-log run ∙ same .chip
 
   by-plan : (y : Answer InMv) → stepsFor config ≡ y → (z : Answer Planned) → planOn stepsFor config c ≡ z
-      → p ≡ ends config d c y z → value v ≡ p .answer .answer → SetOnChip config v c (leftBy run)
+      → p ≡ ends config d c y z → value v ≡ p .answer .answer → SetOnChip config v c (leftBy w call)
   by-plan (refused r) e z q is told = refused-not (sym (told ∙ ap (λ (r : Reached Wired (Left Values)). r .answer .answer) is))
   by-plan (value steps) e (refused r) q is told =
       refused-not (sym (told ∙ ap (λ (r : Reached Wired (Left Values)). r .answer .answer) is))
@@ -151,7 +151,7 @@ module _ {config : Config} {d : BQ769x0} {w : Wired} (run : Run stepsFor config 
       ∙ ap (λ (l : List ℕ). withRegs c (counted (put (c .regs) 6 l))) (take-all 6 (plan .regs) (omega (arith, all steps e plan q))) in
       subst₂ (λ (u : Values) (x : Chip). SetOnChip config u c x) (sym values) (sym chip) (is-set steps e plan q)
 
-  pub set-on-chip : SetOnChip config v c (leftBy run)
+  pub set-on-chip : SetOnChip config v c (leftBy w call)
   set-on-chip =
       by-plan (stepsFor config) refl (planOn stepsFor config c) refl (whole stepsFor config d c sound m)
       (sym answered ∙ ap (λ (l : Left Values). l .answer) (same .answer))
