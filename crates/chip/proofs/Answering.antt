@@ -17,9 +17,9 @@ use Rattle.frames.proofs.Put.{put-put, sets-put}
 use Rattle.laws.specs.Choice.{if_then_else_}
 use Rattle.numbers.specs.Numbers.{word}
 use Rattle.bus.specs.Decoders.{unlog}
-use Rattle.bus.specs.Fields.{field, unfield}
+use Rattle.fields.specs.Fields.{field, unfield}
 use Rattle.bus.specs.Transfers.{Transfer, write, read, Outcome, done, fault, tapeField}
-use Rattle.bus.proofs.Decoders.{fieldOf}
+use Rattle.fields.proofs.Fields.{fieldOf}
 use Rattle.chip.specs.Answering.{transferOf, answeredWith, saying, tells, answerOn}
 use Rattle.chip.specs.Devices.{reached}
 use Rattle.chip.specs.Chip.{begun, answers, shows, carried, respondCut}

@@ -8,7 +8,7 @@ use Prim.Native.Nat.{ℕ, _+_, _≤_}
 use lib.ListN.{length}
 use borrow.Author.Tests.{le-leb}
 use Rattle.frames.specs.Put.{put}
-use Rattle.bus.specs.Fields.{unfield}
+use Rattle.fields.specs.Fields.{unfield}
 use Rattle.bus.specs.Transfers.{Transfer, logField, tapeField}
 use Rattle.bus.proofs.Decoders.{Short, unlog-log}
 use Rattle.chip.specs.Answering.{transferOf, answeredWith, tells, answerOn}

@@ -8,7 +8,7 @@ use lib.ListN.{length}
 use lib.Dec.{eqb, leb}
 use Rattle.frames.specs.Put.{put}
 use Rattle.laws.specs.Choice.{if_then_else_}
-use Rattle.bus.specs.Fields.{unfield}
+use Rattle.fields.specs.Fields.{unfield}
 use Rattle.bus.specs.Decoders.{unlog}
 use Rattle.bus.specs.Transfers.{Transfer, Outcome, done, fault, tapeField}
 use Rattle.chip.specs.Devices.{Reached}

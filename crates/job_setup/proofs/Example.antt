@@ -14,8 +14,8 @@ use Rattle.plan.specs.Plan.{setFor, planFor}
 use Rattle.plan.specs.Registers.{protectFor}
 use Rattle.plan.specs.Steps.{shuntFor, stepsFor}
 use Rattle.plan.specs.Trips.{tripCodeFor, obtainableOr, withinFor}
-use Rattle.job.specs.Jobs.{isDevice, codesAt, isJob, jobOf}
-use Rattle.bus.specs.Fields.{field, unfield}
+use Rattle.job.specs.Jobs.{isDevice, codesAt, isConfig, fieldFor, jobOf}
+use Rattle.fields.specs.Fields.{field, unfield}
 use Rattle.bus.specs.Transfers.{logField, tapeField, wanted, untape, says, start, busOf}
 use Rattle.bus.specs.Transfers.{moved, after, answered, outcome}
 use Rattle.bus.specs.Programs.{ran, onTape, bind, proceed, _>>=_}
@@ -44,7 +44,7 @@ pub example :
     onTape (jobInit job) (busOf tape (replicate 52 0) start)
     ≡ ran (leaves (value values) done) tape log (record { tape = 32; log = 52 })
 unfolding
-    jobInit jobOf isJob isDevice codesAt
+    jobInit jobOf fieldFor isDevice isConfig codesAt
     deviceAllowed newFor isSound soundly calibrate onwardBy onward startCounter protect initBy
     _andThen_ setFor planFor protectFor shuntFor stepsFor tripCodeFor obtainableOr withinFor
     step mvAcross rangeFor codeFor

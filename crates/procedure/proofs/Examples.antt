@@ -23,7 +23,7 @@ use Rattle.plan.specs.Registers.{protectFor}
 use Rattle.plan.specs.Steps.{shuntFor, stepsFor}
 use Rattle.plan.specs.Trips.{tripCodeFor, obtainableOr, withinFor}
 use Rattle.plan.specs.declared.Config.{Config}
-use Rattle.bus.specs.Fields.{field, unfield}
+use Rattle.fields.specs.Fields.{field, unfield}
 use Rattle.bus.specs.Transfers.{logField, tapeField, wanted, untape, says, start, busOf}
 use Rattle.bus.specs.Transfers.{moved, after, answered, outcome}
 use Rattle.bus.specs.Programs.{Ran, ran, onTape, bind, proceed, _>>=_}

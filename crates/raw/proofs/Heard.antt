@@ -16,7 +16,7 @@ use Rattle.refusals.specs.Refusal.{no, asRefusal}
 use Rattle.refusals.specs.declared.Error.{Error}
 use Rattle.refusals.specs.declared.Error.the-variants as E
 use Rattle.laws.specs.Choice.{if_then_else_}
-use Rattle.bus.specs.Fields.{unfield}
+use Rattle.fields.specs.Fields.{unfield}
 use Rattle.bus.specs.Transfers.{Outcome, done, fault, stopped, untape, says}
 use Rattle.bus.proofs.Order.{ended}
 use Rattle.raw.specs.Replies.{judged, outcomeOf, Within, Heard}

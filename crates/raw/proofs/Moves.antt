@@ -14,7 +14,7 @@ use Rattle.refusals.specs.declared.Error.{Error}
 use Rattle.frames.specs.Put.{put}
 use Rattle.frames.proofs.Put.{take-front}
 use Rattle.laws.specs.Choice.{if_then_else_}
-use Rattle.bus.specs.Fields.{field}
+use Rattle.fields.specs.Fields.{field}
 use Rattle.bus.specs.Transfers.{Transfer, Outcome, stopped, Bus, busOf}
 use Rattle.bus.specs.Transfers.{logField, tapeField, wanted, moved, after, says, answered, outcome}
 use Rattle.raw.specs.Replies.{delivered, outcomeOf, Within, Heard, storedIn, WentBy, ReadBy, WrittenBy}

@@ -17,7 +17,9 @@ use Rattle.plan.specs.Steps.{stepsFor}
 use Rattle.plan.specs.Plan.{Values}
 use Rattle.plan.specs.InNumbers.{initNumbers}
 use Rattle.plan.specs.declared.answer.InitNumbers.{InitNumbers}
-use Rattle.job.specs.Jobs.{isJob, deviceOf, configOf, jobOf}
+use Rattle.job.specs.Jobs.{deviceOf, configOf}
+use Rattle.job.specs.Inside.{saysJob}
+use Rattle.job.proofs.ByTests.{job-by-tests}
 use Rattle.bus.specs.Transfers.{Transfer, Bus, start, busOf, moved}
 use Rattle.bus.specs.Programs.{Prog, ret, onTape, bind, proceed, _>>=_}
 use Rattle.bus.specs.Raw.{Done}
@@ -56,16 +58,16 @@ data Program (job : List ℕ) : Type 0 where
       → jobInit job ≡ initBy stepsFor (recordOf job) (configOf job) → Program job
 
 program : (job : List ℕ) → Program job
-unfolding jobInit recordFor jobOf newFor _andThen_ _>>=_ bind proceed
-program job = by (isJob job) refl (deviceAllowed (deviceOf job .x) (deviceOf job .address) (deviceOf job .cells)) refl
+unfolding jobInit recordFor newFor _andThen_ _>>=_ bind proceed
+program job = by (saysJob job) refl (deviceAllowed (deviceOf job .x) (deviceOf job .address) (deviceOf job .cells)) refl
   where
-    by : (t : Bool) → isJob job ≡ t → (y : Answer Done)
+    by : (t : Bool) → saysJob job ≡ t → (y : Answer Done)
         → deviceAllowed (deviceOf job .x) (deviceOf job .address) (deviceOf job .cells) ≡ y → Program job
-    by false e y f = refuses (no 15 []) (rw e) (rw e)
-    by true e (refused r) f = refuses r (rw (e, f)) (rw (e, f))
+    by false e y f = refuses (no 15 []) (rw (job-by-tests job, e)) (rw (job-by-tests job, e))
+    by true e (refused r) f = refuses r (rw (job-by-tests job, e, f)) (rw (job-by-tests job, e, f))
     by true e (value done) f =
         sets-up (new-sound (deviceOf job .x) (deviceOf job .address) (deviceOf job .cells) (deviceOf job .check) (rw f) refl)
-        (rw (e, f)) (rw (e, f))
+        (rw (job-by-tests job, e, f)) (rw (job-by-tests job, e, f))
 
 fine : (job : List ℕ) → Program job → Fine LeftOff 52 (jobInit job)
 fine job (refuses r q e) = subst (Fine LeftOff 52) (sym e) (fine-ret LeftOff 52 _)

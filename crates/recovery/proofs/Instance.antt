@@ -23,7 +23,7 @@ use Rattle.plan.specs.Registers.{protectFor}
 use Rattle.plan.specs.Steps.{shuntFor, stepsFor}
 use Rattle.plan.specs.Trips.{tripCodeFor, obtainableOr, withinFor}
 use Rattle.plan.specs.declared.InitAnswer.the-variants as I
-use Rattle.bus.specs.Fields.{field, unfield}
+use Rattle.fields.specs.Fields.{field, unfield}
 use Rattle.bus.specs.Transfers.{logField, tapeField, wanted, untape, says, start, moved, after, answered, outcome}
 use Rattle.bus.specs.Programs.{onTape, bind, proceed, _>>=_}
 use Rattle.bus.specs.Raw.{plainly, received, whereRight, checkedly, plainRead, askFrame, checkedRead, readRaw, readBytes}

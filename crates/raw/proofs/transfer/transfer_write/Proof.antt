@@ -4,7 +4,7 @@ use Prim.Native.Nat.{ℕ, _+_, _≤_}
 use native.Mathlib.Omega.{arith}
 use lib.ListN.{length}
 use denote.Ref.{now}
-use Rattle.bus.specs.Fields.{field}
+use Rattle.fields.specs.Fields.{field}
 use Rattle.bus.specs.Transfers.{Transfer, write, Bus, busOf, logField, wanted, outcome}
 use Rattle.raw.specs.Replies.{Heard}
 use Rattle.raw.specs.declared.transfer.Reply.the-variants.{Made}

@@ -10,7 +10,7 @@ use borrow.Author.Tests.{leb-true}
 use denote.Ref.{now}
 use Rattle.frames.specs.Put.{put}
 use Rattle.frames.proofs.Put.{length-put}
-use Rattle.bus.specs.Fields.{field}
+use Rattle.fields.specs.Fields.{field}
 use Rattle.bus.specs.Transfers.{Transfer, read, write, Bus, busOf, logField, wanted}
 use Rattle.raw.specs.Replies.{onward, SentBy}
 use Rattle.raw.specs.declared.transfer.Reply.the-variants.{Made}
