@@ -20,7 +20,8 @@ use Rattle.bus.specs.Decoders.{unlog}
 use Rattle.fields.specs.Fields.{field, unfield}
 use Rattle.bus.specs.Transfers.{Transfer, write, read, Outcome, done, fault, tapeField}
 use Rattle.fields.proofs.Fields.{fieldOf}
-use Rattle.chip.specs.Answering.{transferOf, answeredWith, saying, tells, answerOn}
+use Rattle.chip.specs.Answering.{transferOf, answeredWith, tells, answerOn}
+use Rattle.chip.specs.Inside.{saying}
 use Rattle.chip.specs.Devices.{reached}
 use Rattle.chip.specs.Chip.{begun, answers, shows, carried, respondCut}
 use Rattle.chip.specs.declared.Chip.{Chip}

@@ -1,6 +1,5 @@
 -- What the chip answers to the field of a transfer in a log: the next field of a tape.
 -- Assumes nothing.
-use mathlib.Core.Bool.{Bool, true, false}
 use mathlib.Core.List.{List}
 use mathlib.Core.Option.{Option, none, some, bind}
 use Prim.Native.Nat.{ℕ, _+_}
@@ -10,7 +9,7 @@ use Rattle.frames.specs.Put.{put}
 use Rattle.laws.specs.Choice.{if_then_else_}
 use Rattle.fields.specs.Fields.{unfield}
 use Rattle.bus.specs.Decoders.{unlog}
-use Rattle.bus.specs.Transfers.{Transfer, Outcome, done, fault, tapeField}
+use Rattle.bus.specs.Transfers.{Transfer, Outcome, tapeField}
 use Rattle.chip.specs.Devices.{Reached}
 use Rattle.chip.specs.Chip.{respondCut}
 use Rattle.chip.specs.declared.Chip.{Chip}
@@ -28,11 +27,6 @@ transferOf bytes = bind (unfield bytes) λ f. if eqb (length (f .rest)) 0 then u
 
 abbrev pub answeredWith : Chip → ℕ → Answered
 answeredWith c end = record { chip = c; end = end }
-
--- done, or a fault, with these bytes
-abbrev pub saying : Bool → List ℕ → Outcome
-saying true bytes = done bytes
-saying false bytes = fault bytes
 
 -- how a transfer went is put on the tape, from `end` on, and the chip is as it then is; where the tape has no room, nothing is changed
 unfoldable pub tells : Chip → Reached Chip Outcome → List ℕ → ℕ → List ℕ × Answered

@@ -5,12 +5,10 @@ use mathlib.Core.Bool.{Bool, cond, _&&_}
 use mathlib.Core.List.{List, [], _∷_}
 use lib.Dec.{leb}
 use lib.IntN.{ℤ, pos}
-use Rattle.refusals.specs.Refusal.{Answer, value, refused, no, asRefusal}
+use Rattle.refusals.specs.Refusal.{Answer, value, refused, no}
 use Rattle.adc.specs.Trips.{ovTrip, uvTrip, limits, askedReading, tripCode}
 use Rattle.adc.specs.declared.transfer.Limits.{Limits}
 use Rattle.plan.specs.Order.{_andThen_}
-use Rattle.plan.specs.declared.six_bytes.Within.{Within}
-use Rattle.plan.specs.declared.six_bytes.Within.the-variants as W
 
 -- the code for an asked voltage; a gain of 0 is 9
 unfoldable pub tripCodeFor : ℕ → ℤ → ℕ → Answer ℕ
@@ -39,7 +37,3 @@ unfoldable pub withinFor : ℕ → ℤ → ℕ → ℕ → Answer (Unit {0})
 withinFor gain offset ov uv =
     obtainableOr 8 ov (ovLimits gain offset) andThen λ _.
     obtainableOr 7 uv (uvLimits gain offset)
-
-abbrev pub asWithin : Within → Answer (Unit {0})
-asWithin W.Both = value tt
-asWithin (W.Refused e) = refused (asRefusal e)

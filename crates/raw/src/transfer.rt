@@ -8,7 +8,7 @@ ghost use Rattle.frames.specs.Put.{put};
 ghost use Rattle.fields.specs.Fields.{field};
 ghost use Rattle.bus.specs.Transfers.{read, write, logField, says, answered};
 ghost use Rattle.bus.specs.Lent.{lentBus};
-ghost use Rattle.raw.specs.Replies.{judged, Heard, ReadBy, WrittenBy};
+ghost use Rattle.raw.specs.Inside.{judged, Heard, ReadBy, WrittenBy};
 use bus::Cursor;
 use refusals::Error;
 

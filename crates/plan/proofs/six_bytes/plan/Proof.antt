@@ -11,7 +11,8 @@ use Rattle.protection.specs.Ocd as ocd
 use Rattle.protection.specs.declared.range.OCDSCDRange.{OCDSCDRange}
 use Rattle.plan.specs.Order.{_andThen_}
 use Rattle.plan.specs.Plan.{Planned, withBytes, setFor, planFor}
-use Rattle.plan.specs.Trips.{tripCodeFor, withinFor, asWithin}
+use Rattle.plan.specs.Trips.{tripCodeFor, withinFor}
+use Rattle.plan.specs.Inside.{asWithin}
 use Rattle.plan.specs.declared.Config.{Config}
 use Rattle.plan.proofs.After.{choice, choice-only}
 use Rattle.plan.proofs.Only.{code-only}

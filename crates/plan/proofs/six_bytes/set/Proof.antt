@@ -7,7 +7,8 @@ use lib.IntN.{ℤ}
 use Rattle.refusals.specs.Refusal.{Answer, Refusal, value, refused, no}
 use Rattle.protection.specs.declared.range.OCDSCDRange.{OCDSCDRange}
 use Rattle.plan.specs.Plan.{Values, Planned, valuesFor, withBytes, setFor}
-use Rattle.plan.specs.Registers.{protectFor, asProtect}
+use Rattle.plan.specs.Registers.{protectFor}
+use Rattle.plan.specs.Inside.{asProtect}
 use Rattle.plan.specs.declared.Config.{Config}
 use Rattle.plan.specs.declared.six_bytes.Protect.{Protect}
 use Rattle.plan.proofs.Only.{protect-only}

@@ -14,7 +14,7 @@ use Rattle.bus.proofs.Programs.{went-on, went-off, pure-on, pure-off}
 use Rattle.bq769x0.specs.Record.{Left}
 use Rattle.procedure.specs.Init.{protect}
 use Rattle.bq769x0.specs.declared.BQ769x0.{BQ769x0}
-use Rattle.setup.specs.Stages.{protectedBy}
+use Rattle.setup.specs.Inside.{protectedBy}
 use Rattle.setup.proofs.Onward.{by-link, plan-on, plan-off}
 use borrow.Author.Needs.{needs}
 use Rattle.setup.proofs.stages.protect.Statement.{statement}
