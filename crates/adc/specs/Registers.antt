@@ -5,12 +5,12 @@ use Rattle.numbers.specs.Numbers.{asI8}
 use Rattle.adc.specs.declared.transfer.AdcTransferFunction.{AdcTransferFunction}
 
 -- bits high to low of a byte, as a number
-abbrev pub field : ℕ → ℕ → ℕ → ℕ
-field high low byte = byte / 2 ^ low % 2 ^ (high + 1 - low)
+abbrev pub bitField : ℕ → ℕ → ℕ → ℕ
+bitField high low byte = byte / 2 ^ low % 2 ^ (high + 1 - low)
 
 -- the gain in µV a step: 365 and five bits, bits 3-2 of register 50 above bits 7-5 of register 59
 abbrev pub gainOf : ℕ → ℕ → ℕ
-gainOf b50 b59 = 365 + (field 3 2 b50 * 8 + field 7 5 b59)
+gainOf b50 b59 = 365 + (bitField 3 2 b50 * 8 + bitField 7 5 b59)
 
 -- register 51 is the offset in mV, a signed byte
 abbrev pub calibration : ℕ → ℕ → ℕ → AdcTransferFunction

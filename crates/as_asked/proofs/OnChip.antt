@@ -15,7 +15,7 @@ use Rattle.adc.proofs.Gain.{gain-range, offset-range}
 use Rattle.frames.specs.Put.{put}
 use Rattle.frames.proofs.Put.{length-put}
 use Rattle.plan.specs.AsAsked.{AsAsked}
-use Rattle.plan.specs.Order as order
+use Rattle.plan.specs.Order.{_andThen_}
 use Rattle.plan.specs.Plan.{Values, Planned, planFor, asInit}
 use Rattle.plan.specs.Steps.{InMv, stepsFor}
 use Rattle.plan.specs.declared.Config.{Config}
@@ -112,7 +112,7 @@ module _ {config : Config} {d : BQ769x0} {w : Wired} {call : Call} (run : Run st
 
   module _ (steps : InMv) (e : stepsFor config ≡ value steps) (plan : Planned) (q : planOn stepsFor config c ≡ value plan) where
     planned : planFor (calibrationOf c .gain) (calibrationOf c .offset) config (steps .scd) (steps .ocd) ≡ value plan
-    unfolding planOn order._>>=_
+    unfolding planOn _andThen_
     planned = rw e at q
 
     all : length (plan .regs) ≡ 6

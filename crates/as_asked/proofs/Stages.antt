@@ -15,7 +15,7 @@ use Rattle.adc.specs.declared.transfer.AdcTransferFunction.{AdcTransferFunction
 use Rattle.adc.proofs.Gain.{gain-range, offset-range}
 use Rattle.protection.specs.Steps.{scdLower, scdUpper, ocdLower, ocdUpper}
 use Rattle.plan.specs.Exactly.{of678, unfit}
-use Rattle.plan.specs.Order as order
+use Rattle.plan.specs.Order.{_andThen_}
 use Rattle.plan.specs.Plan.{Values, Planned, planFor}
 use Rattle.plan.specs.Steps.{InMv, stepsFor}
 use Rattle.plan.specs.declared.Config.{Config}
@@ -47,8 +47,8 @@ only-bus : {A : Type 0} (n : ℕ) (a : Answer A) {r : Refusal} → Only n a → 
 only-bus {A} n a {r} only q e = subst OfBus (ap (refusalIn {A = A}) (sym (only r e) ∙ e)) q
 
 then-bus : {A B : Type 0} (a : Answer A) (next : A → Answer B) {r : Refusal}
-    → (a ≡ refused r → OfBus r) → ((x : A) → next x ≡ refused r → OfBus r) → order._>>=_ a next ≡ refused r → OfBus r
-unfolding order._>>=_
+    → (a ≡ refused r → OfBus r) → ((x : A) → next x ≡ refused r → OfBus r) → a andThen next ≡ refused r → OfBus r
+unfolding _andThen_
 then-bus {A} {B} (value x) next here later e = later x e
 then-bus {A} {B} (refused s) next here later e = here (ap (λ (t : Refusal). refused t) (ap (refusalIn {A = B}) e))
 

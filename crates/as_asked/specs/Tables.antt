@@ -1,7 +1,7 @@
 -- The register tables of 00, 01, 04 and 05: the fields of a byte, named as the datasheet names them. (That of 06 to 0B is plan's, in Fields.)
 -- Assumes nothing.
 use Prim.Native.Nat.{ℕ}
-use Rattle.adc.specs.Registers.{field}
+use Rattle.adc.specs.Registers.{bitField}
 
 -- 00, SYS_STAT: the flags
 pub record Table00 : Type 0 where
@@ -16,14 +16,14 @@ pub record Table00 : Type 0 where
 
 abbrev pub table00 : ℕ → Table00
 table00 byte = record {
-  ccReady = field 7 7 byte;
-  reserved = field 6 6 byte;
-  deviceXready = field 5 5 byte;
-  ovrdAlert = field 4 4 byte;
-  uv = field 3 3 byte;
-  ov = field 2 2 byte;
-  scd = field 1 1 byte;
-  ocd = field 0 0 byte;
+  ccReady = bitField 7 7 byte;
+  reserved = bitField 6 6 byte;
+  deviceXready = bitField 5 5 byte;
+  ovrdAlert = bitField 4 4 byte;
+  uv = bitField 3 3 byte;
+  ov = bitField 2 2 byte;
+  scd = bitField 1 1 byte;
+  ocd = bitField 0 0 byte;
 }
 
 -- 01, CELLBAL1: which of cells 5 to 1 are balanced
@@ -37,12 +37,12 @@ pub record Table01 : Type 0 where
 
 abbrev pub table01 : ℕ → Table01
 table01 byte = record {
-  reserved = field 7 5 byte;
-  cb5 = field 4 4 byte;
-  cb4 = field 3 3 byte;
-  cb3 = field 2 2 byte;
-  cb2 = field 1 1 byte;
-  cb1 = field 0 0 byte;
+  reserved = bitField 7 5 byte;
+  cb5 = bitField 4 4 byte;
+  cb4 = bitField 3 3 byte;
+  cb3 = bitField 2 2 byte;
+  cb2 = bitField 1 1 byte;
+  cb1 = bitField 0 0 byte;
 }
 
 -- 04, SYS_CTRL1: a load is there; the converter runs; 1 the thermistor, 0 the die; and the two bits that shut the chip down
@@ -57,13 +57,13 @@ pub record Table04 : Type 0 where
 
 abbrev pub table04 : ℕ → Table04
 table04 byte = record {
-  loadPresent = field 7 7 byte;
-  reserved65 = field 6 5 byte;
-  adcEn = field 4 4 byte;
-  tempSel = field 3 3 byte;
-  reserved2 = field 2 2 byte;
-  shutA = field 1 1 byte;
-  shutB = field 0 0 byte;
+  loadPresent = bitField 7 7 byte;
+  reserved65 = bitField 6 5 byte;
+  adcEn = bitField 4 4 byte;
+  tempSel = bitField 3 3 byte;
+  reserved2 = bitField 2 2 byte;
+  shutA = bitField 1 1 byte;
+  shutB = bitField 0 0 byte;
 }
 
 -- 05, SYS_CTRL2: no delays; the counter runs, or runs once; discharging and charging
@@ -77,12 +77,12 @@ pub record Table05 : Type 0 where
 
 abbrev pub table05 : ℕ → Table05
 table05 byte = record {
-  delayDis = field 7 7 byte;
-  ccEn = field 6 6 byte;
-  ccOneshot = field 5 5 byte;
-  reserved42 = field 4 2 byte;
-  dsgOn = field 1 1 byte;
-  chgOn = field 0 0 byte;
+  delayDis = bitField 7 7 byte;
+  ccEn = bitField 6 6 byte;
+  ccOneshot = bitField 5 5 byte;
+  reserved42 = bitField 4 2 byte;
+  dsgOn = bitField 1 1 byte;
+  chgOn = bitField 0 0 byte;
 }
 
 -- ---- one field as asked, or two, and every other as it was

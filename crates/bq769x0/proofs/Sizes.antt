@@ -8,7 +8,7 @@ use Rattle.refusals.specs.Refusal.{Answer, value, refusedIf}
 use Rattle.sizes.specs.Sizes.{isSize, isCount}
 use Rattle.sizes.proofs.Sizes.{at-most-15}
 use Rattle.bus.specs.Raw.{Done}
-use Rattle.bq769x0.specs.Record.{deviceFor, accepts, isSound}
+use Rattle.bq769x0.specs.Record.{deviceAllowed, accepts, isSound}
 use Rattle.bq769x0.specs.declared.BQ769x0.{BQ769x0}
 use Rattle.bq769x0.proofs.Keeps.{decides}
 
@@ -21,7 +21,7 @@ passes true false address t = absurd t
 passes false count address t = absurd t
 
 pub sound-pack : (d : BQ769x0) → isSound d ≡ true → T (isCount (d .link .x) (d .«cell_count»))
-unfolding deviceFor
+unfolding deviceAllowed
 sound-pack d e =
     let taken = ap (λ (y : Answer Done). accepts y) (decides d e .device) in
     passes (isSize (d .link .x)) (isCount (d .link .x) (d .«cell_count»)) (ltb 127 (d .link .address))

@@ -10,7 +10,7 @@ use Rattle.refusals.specs.Refusal.{value, refusedIf}
 use Rattle.refusals.proofs.Values.{refused-not}
 use Rattle.bus.specs.Raw.{Done, sound}
 use Rattle.sizes.specs.Sizes.{isSize, isCount}
-use Rattle.bq769x0.specs.Record.{deviceFor, isSound}
+use Rattle.bq769x0.specs.Record.{deviceAllowed, isSound}
 use Rattle.bq769x0.specs.declared.BQ769x0.{BQ769x0}
 use Rattle.bq769x0.proofs.Keeps.{decides}
 
@@ -21,7 +21,7 @@ accepted false false true x e = refused-not e
 accepted false false false x e = (refl, refl)
 
 fits : (d : BQ769x0) → isSound d ≡ true → (isSize (d .link .x) ≡ true) × (leb (d .link .address) 127 ≡ true)
-unfolding deviceFor
+unfolding deviceAllowed
 fits d e =
     let tests =
     accepted (not (isSize (d .link .x))) (not (isCount (d .link .x) (d .«cell_count»))) (ltb 127 (d .link .address)) tt

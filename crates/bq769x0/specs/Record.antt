@@ -22,8 +22,8 @@ use Rattle.bq769x0.specs.declared.record.NewAnswer.{NewAnswer}
 use Rattle.bq769x0.specs.declared.record.NewAnswer.the-variants as N
 
 -- 9, 10, 11
-unfoldable pub deviceFor : ℕ → ℕ → ℕ → Answer Done
-deviceFor x address n = ofPack x n (refusedIf (ltb 127 address) 11 (value tt))
+unfoldable pub deviceAllowed : ℕ → ℕ → ℕ → Answer Done
+deviceAllowed x address n = ofPack x n (refusedIf (ltb 127 address) 11 (value tt))
 
 -- nothing read yet
 abbrev pub unread : Readings
@@ -91,7 +91,7 @@ madeBy (value done) d = leaves (value tt) d
 madeBy (refused r) d = leaves (refused r) (fresh 0 0 0 false)
 
 unfoldable pub newFor : ℕ → ℕ → ℕ → Bool → Left Done
-newFor x address n check = madeBy (deviceFor x address n) (fresh x address n check)
+newFor x address n check = madeBy (deviceAllowed x address n) (fresh x address n check)
 
 -- ---- soundness
 abbrev pub isZero : ℤ → Bool
@@ -113,14 +113,14 @@ markedRight d =
     else eqb (d .shunt .0) 0
 
 pub record Sound (d : BQ769x0) : Type 0 where
-  pub device : deviceFor (d .link .x) (d .link .address) (d .«cell_count») ≡ value tt
+  pub device : deviceAllowed (d .link .x) (d .link .address) (d .«cell_count») ≡ value tt
   pub calibrated : calibratedRight d ≡ true
   pub shunted : leb (d .shunt .0) 2147483647 ≡ true
   pub marked : markedRight d ≡ true
 
 unfoldable pub isSound : BQ769x0 → Bool
 isSound d =
-    accepts (deviceFor (d .link .x) (d .link .address) (d .«cell_count»))
+    accepts (deviceAllowed (d .link .x) (d .link .address) (d .«cell_count»))
     && (calibratedRight d && leb (d .shunt .0) 2147483647 && markedRight d)
 
 -- ---- the ways in which calls change a record

@@ -1,7 +1,7 @@
 // The record: made by `new`, changed by the setters below, and sound or not.
 ghost use mathlib.Core.Path.{_≡_};
 ghost use Rattle.refusals.specs.Refusal.{asRefusal, refusalIn};
-ghost use Rattle.bq769x0.specs.Record.{unread, ofParts, headOf, withHead, fresh, deviceFor, asMade, asNew, newFor};
+ghost use Rattle.bq769x0.specs.Record.{unread, ofParts, headOf, withHead, fresh, deviceAllowed, asMade, asNew, newFor};
 ghost use Rattle.bq769x0.specs.Record.{leaves, calibratedRight, markedRight, isSound, withCalibration, withShunt, withReadings};
 ghost use Rattle.bq769x0.specs.declared.Readings.{Readings};
 use crate::BQ769x0;
@@ -221,7 +221,7 @@ impl Head {
 
 // 9, 10, 11.
 fn device_answer(x: u8, dev_address: u8, cell_count: u8) -> NewAnswer
-    ensures { λ r. ⌜ asMade r ≡ deviceFor x «dev_address» «cell_count» ⌝ }
+    ensures { λ r. ⌜ asMade r ≡ deviceAllowed x «dev_address» «cell_count» ⌝ }
 {
     if !sizes::is_size(x) {
         return NewAnswer::Refused(Error::BadDevice);

@@ -1,70 +1,19 @@
--- The decoders undo the encoders: a field, a transfer's field in the log, an outcome's field on the tape, and a whole log;
--- and a field that was decoded is its encoding.
+-- The decoders undo the encoders: a transfer's field in the log, an outcome's field on the tape, and a whole log.
 -- A length is two bytes, so each holds below 65536.
 -- Assumes nothing.
-use mathlib.Core.Path.{_≡_, refl, ap, _∙_, subst}
-use mathlib.Core.Bool.{Bool, true, false}
+use mathlib.Core.Path.{_≡_, refl, ap, _∙_}
 use mathlib.Core.List.{List, [], _∷_, _++_, map}
-use mathlib.Core.Option.{none, some, bind, Option·map, Option·some-injective, Option·none-ne-some}
+use mathlib.Core.Option.{none, some, bind, Option·map, Option·none-ne-some}
 use Prim.Native.Nat.{ℕ, suc, zero, _/_, _%_, _≤_, _<_}
 use native.Mathlib.Omega.{arith}
-use lib.ListN.{length, take, drop, getD, length-append, take-append-drop}
-use lib.Seq.{take-at, drop-at, length-take-le}
-use lib.Dec.{leb}
-use borrow.Author.Tests.{le-leb, leb-true, eq-eqb}
-use Rattle.numbers.specs.Numbers.{word}
-use Rattle.laws.specs.Choice.{if_then_else_}
-use Rattle.bus.specs.Fields.{field, Field, unfield}
+use lib.ListN.{length, length-append}
+use borrow.Author.Tests.{le-leb, eq-eqb}
+use Rattle.fields.specs.Fields.{field, Field, unfield}
+use Rattle.fields.proofs.Fields.{two-bytes, fieldOf, unfield-field}
 use Rattle.bus.specs.Decoders.{unlog, transfersIn}
 use Rattle.bus.specs.Transfers.{Transfer, write, read, Outcome, done, fault, stopped}
 use Rattle.bus.specs.Transfers.{logField, tapeField, untape, says}
 use Rattle.bus.specs.Shown.{Made, logged}
-
--- ---- a field
-
--- a number's two bytes, high first
-two-bytes : (n : ℕ) → n < 65536 → word (n / 256 % 256) (n % 256) ≡ n
-two-bytes n h = omega arith
-
-abbrev pub fieldOf : ℕ → List ℕ → List ℕ → Field
-fieldOf tag value rest = record { tag = tag; value = value; rest = rest }
-
-pub unfield-field : (tag : ℕ) (value rest : List ℕ) → length value < 65536
-    → unfield (field tag value ++ rest) ≡ some (fieldOf tag value rest)
-unfolding field unfield
-unfield-field tag value rest h =
-    let k : length value ≤ length (value ++ rest) = simp length-append (omega arith) in
-    rw (two-bytes (length value) h, le-leb _ _ k, take-at value rest _ refl, drop-at value rest _ refl)
-
--- these bytes are this field and its rest
-pub record Whole (bytes : List ℕ) (f : Field) : Type 0 where
-  pub is : bytes ≡ field (f .tag) (f .value) ++ f .rest
-  pub short : length (f .value) < 65536
-
-module _ (tag high low : ℕ) (bytes : List ℕ) (h : high < 256) (l : low < 256) where
-  whole : word high low ≤ length bytes
-      → Whole (tag ∷ high ∷ low ∷ bytes) (fieldOf tag (take (word high low) bytes) (drop (word high low) bytes))
-  unfolding field
-  whole k =
-      let size = length-take-le (word high low) bytes k in
-      let up : word high low / 256 % 256 ≡ high = omega arith in
-      let down : word high low % 256 ≡ low = omega arith in
-      record { is = rw (size, up, down, take-append-drop); short = omega (arith, size) }
-
-  whole-if : (f : Field) (c : Bool) → leb (word high low) (length bytes) ≡ c
-      → (if c then some (fieldOf tag (take (word high low) bytes) (drop (word high low) bytes)) else none) ≡ some f
-      → Whole (tag ∷ high ∷ low ∷ bytes) f
-  whole-if f true e q = subst (Whole (tag ∷ high ∷ low ∷ bytes)) (Option·some-injective _ _ q) (whole (leb-true _ _ e))
-  whole-if f false e q = absurd (Option·none-ne-some _ q)
-
--- the other way, where the two bytes of the length are bytes
-pub field-unfield : (bytes : List ℕ) (f : Field) → unfield bytes ≡ some f → getD bytes 1 0 < 256 → getD bytes 2 0 < 256
-    → Whole bytes f
-unfolding unfield
-field-unfield [] f e h l = absurd (Option·none-ne-some _ e)
-field-unfield (tag ∷ []) f e h l = absurd (Option·none-ne-some _ e)
-field-unfield (tag ∷ high ∷ []) f e h l = absurd (Option·none-ne-some _ e)
-field-unfield (tag ∷ high ∷ low ∷ bytes) f e h l = whole-if tag high low bytes h l f _ refl e
 
 -- ---- a transfer in the log
 

@@ -9,7 +9,7 @@ use Rattle.refusals.specs.Refusal.{Answer, value, refused}
 use Rattle.check_byte.specs.CheckByte.{checkByte, divide, line, coefficient, divisor, number}
 use Rattle.frames.specs.Frames.{readByte, writeByte, checked, right, dataOf, writeFrame, readFrame, framed}
 use Rattle.frames.specs.Put.{put}
-use Rattle.bus.specs.Fields.{field, unfield}
+use Rattle.fields.specs.Fields.{field, unfield}
 use Rattle.bus.specs.Transfers.{done, busOf}
 use Rattle.bus.specs.Transfers.{logField, tapeField, wanted, untape, says, moved, after, answered, outcome}
 use Rattle.bus.specs.Programs.{Prog, ran, onTape, bind, proceed, _orLeave_, _>>=_}

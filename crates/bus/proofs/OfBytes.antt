@@ -10,7 +10,7 @@ use Rattle.check_byte.specs.CheckByte.{Bytes}
 use Rattle.laws.specs.Choice.{if_then_else_}
 use Rattle.numbers.specs.Numbers.{word}
 use Rattle.refusals.specs.Refusal.{no}
-use Rattle.bus.specs.Fields.{unfield}
+use Rattle.fields.specs.Fields.{unfield}
 use Rattle.bus.specs.Transfers.{Transfer, Outcome, done, fault, stopped, Bus, wanted, untape, says, moved, after, outcome}
 use Rattle.bus.specs.Programs.{Prog, ret, ask}
 use Rattle.bus.specs.Shown.{Made}

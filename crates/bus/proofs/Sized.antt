@@ -16,7 +16,7 @@ use Rattle.frames.specs.Put.{put}
 use Rattle.frames.proofs.Checked.{length-data}
 use Rattle.frames.proofs.Put.{length-put}
 use Rattle.laws.specs.Choice.{if_then_else_}
-use Rattle.bus.specs.Fields.{Field, unfield}
+use Rattle.fields.specs.Fields.{Field, unfield}
 use Rattle.bus.specs.Transfers.{Transfer, read, Outcome, done, fault, stopped, Bus}
 use Rattle.bus.specs.Transfers.{wanted, untape, says, outcome}
 use Rattle.bus.specs.Programs.{Prog, ret, Ran, onTape}

@@ -9,7 +9,7 @@ use lib.ListN.{length, drop, getD}
 use lib.Dec.{leb, eqb}
 use Rattle.numbers.specs.Numbers.{word}
 use Rattle.laws.specs.Choice.{if_then_else_}
-use Rattle.bus.specs.Fields.{Field, unfield}
+use Rattle.fields.specs.Fields.{Field, unfield}
 use Rattle.bus.specs.Transfers.{Transfer, write, read}
 
 unfoldable pub unlog : Field → Option Transfer

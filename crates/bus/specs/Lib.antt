@@ -1,4 +1,3 @@
-pub mod Fields
 pub mod Transfers
 pub mod Programs
 pub mod Lent

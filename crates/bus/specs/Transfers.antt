@@ -9,7 +9,7 @@ use lib.Dec.{leb, eqb}
 use Rattle.refusals.specs.Refusal.{Refusal, no}
 use Rattle.frames.specs.Put.{put}
 use Rattle.laws.specs.Choice.{if_then_else_}
-use Rattle.bus.specs.Fields.{field, Field, unfield}
+use Rattle.fields.specs.Fields.{field, Field, unfield}
 use Rattle.bus.specs.declared.Cursor.{Cursor}
 
 pub data Transfer : Type 0 where

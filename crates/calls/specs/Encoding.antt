@@ -4,8 +4,9 @@ use mathlib.Core.Path.{_≡_}
 use mathlib.Core.Bool.{true}
 use Prim.Native.Nat.{ℕ}
 use mathlib.Core.List.{List, [], _∷_, _++_}
+use Rattle.fields.specs.Fields.{field}
 use Rattle.job.specs.declared.Device.{Device}
-use Rattle.job.specs.Encoding.{deviceValue, field}
+use Rattle.job.specs.Encoding.{deviceValue}
 use Rattle.calls.specs.Shapes.{lawful}
 
 pub record Call : Type 0 where

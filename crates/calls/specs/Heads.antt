@@ -3,11 +3,13 @@
 use Prim.Native.Nat.{ℕ, zero, suc, _+_}
 use mathlib.Core.Bool.{Bool, cond, _&&_}
 use mathlib.Core.List.{List, []}
-use lib.ListN.{length, take, drop}
-use lib.Dec.{eqb, leb}
-use Rattle.numbers.specs.Numbers.{word}
+use mathlib.Core.Option.{Option, none, some}
+use lib.ListN.{length, drop}
+use lib.Dec.{eqb}
+use Rattle.fields.specs.Fields.{unfield}
+use Rattle.fields.specs.Fields as read
 use Rattle.refusals.specs.Refusal.{Answer, value, refused, no, asRefusal}
-use Rattle.job.specs.Jobs.{byteAt, deviceFor}
+use Rattle.job.specs.Jobs.{deviceFor}
 use Rattle.job.specs.declared.Device.{Device}
 use Rattle.calls.specs.Shapes.{lawful}
 use Rattle.calls.specs.declared.Field.{Field}
@@ -17,48 +19,45 @@ use Rattle.calls.specs.declared.Heading.{Heading}
 use Rattle.calls.specs.declared.HeadAnswer.{HeadAnswer}
 use Rattle.calls.specs.declared.HeadAnswer.the-variants as H
 
--- a field at the head of bytes: its tag, its length in two bytes, its value
-abbrev pub lengthOf : List ℕ → ℕ
-lengthOf bytes = word (byteAt bytes 1) (byteAt bytes 2)
+-- where a field lies that begins at byte `at` of the input
+abbrev pub placed : ℕ → read.Field → Field
+placed at f = record { tag = f .tag; start = at + 3; len = length (f .value) }
 
-abbrev pub valueOf : List ℕ → List ℕ
-valueOf bytes = take (lengthOf bytes) (drop 3 bytes)
+abbrev pub foundAt : ℕ → Option read.Field → Answer Field
+foundAt at (some f) = value (placed at f)
+foundAt at none = refused (no 15 [])
 
-unfoldable pub isWhole : List ℕ → Bool
-isWhole bytes = leb (3 + lengthOf bytes) (length bytes)
-
--- where it lies, in an input whose rest from `at` on are these bytes
-abbrev pub fieldOf : ℕ → List ℕ → Field
-fieldOf at bytes = record { tag = byteAt bytes 0; start = at + 3; len = lengthOf bytes }
-
+-- the field at byte `at`, of the input's bytes from there on
 unfoldable pub fieldAt : ℕ → List ℕ → Answer Field
-fieldAt at bytes = cond (isWhole bytes) (value (fieldOf at bytes)) (refused (no 15 []))
+fieldAt at bytes = foundAt at (unfield bytes)
 
 abbrev pub asField : FieldAnswer → Answer Field
 asField (F.Found field) = value field
 asField (F.Refused e) = refused (asRefusal e)
 
-unfoldable pub isEnd : List ℕ → Bool
-isEnd bytes = isWhole bytes && eqb (byteAt bytes 0) 0x3F && eqb (lengthOf bytes) 0
-
-unfoldable pub isCall : List ℕ → Bool
-isCall bytes = isWhole bytes && lawful (byteAt bytes 0) (valueOf bytes)
+-- 3F 0000
+abbrev pub isEnd : read.Field → Bool
+isEnd f = eqb (f .tag) 0x3F && eqb (length (f .value)) 0
 
 -- the field that ends the calls, where each field ahead of it is a call; there are no more fields than bytes
+abbrev pub endBy : (ℕ → List ℕ → Answer Field) → ℕ → Option read.Field → Answer Field
+endBy next at (some f) =
+    cond (isEnd f)
+    (value (placed at f))
+    (cond (lawful (f .tag) (f .value)) (next (at + (3 + length (f .value))) (f .rest)) (refused (no 15 [])))
+endBy next at none = refused (no 15 [])
+
 unfoldable pub endFrom : ℕ → ℕ → List ℕ → Answer Field
 endFrom zero at bytes = refused (no 15 [])
-endFrom (suc fields) at bytes =
-    cond (isEnd bytes)
-    (value (fieldOf at bytes))
-    (cond (isCall bytes) (endFrom fields (at + (3 + lengthOf bytes)) (drop (3 + lengthOf bytes) bytes)) (refused (no 15 [])))
+endFrom (suc fields) at bytes = endBy (endFrom fields) at (unfield bytes)
 
 abbrev pub headed : Answer Device → Answer Field → Answer Heading
 headed (value device) (value end) = value (record { device = device; «tape_at» = end .start })
 headed (value device) (refused r) = refused r
 headed (refused r) end = refused r
 
-unfoldable pub headOf : List ℕ → Answer Heading
-headOf bytes = headed (deviceFor bytes) (endFrom (length bytes) 7 (drop 7 bytes))
+unfoldable pub headingOf : List ℕ → Answer Heading
+headingOf bytes = headed (deviceFor bytes) (endFrom (length bytes) 7 (drop 7 bytes))
 
 abbrev pub asHead : HeadAnswer → Answer Heading
 asHead (H.Wanted heading) = value heading

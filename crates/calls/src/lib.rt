@@ -2,7 +2,7 @@
 ghost use mathlib.Core.Path.{_≡_};
 ghost use lib.ListN.{length, drop};
 ghost use Rattle.calls.specs.Shapes.{shapeOf, below, reads, fits, lawful};
-ghost use Rattle.calls.specs.Heads.{fieldAt, asField, endFrom, headOf, asHead};
+ghost use Rattle.calls.specs.Heads.{fieldAt, asField, endFrom, headingOf, asHead};
 use job::Device;
 use job::DeviceAnswer;
 use refusals::Error;
@@ -171,7 +171,7 @@ fn end_of_calls(input: &[u8]) -> FieldAnswer
 
 // The head that bytes begin with, or 15.
 pub fn head(input: &[u8]) -> HeadAnswer
-    ensures { λ r. ⌜ asHead r ≡ headOf (now (input .entry)) ⌝ }
+    ensures { λ r. ⌜ asHead r ≡ headingOf (now (input .entry)) ⌝ }
 {
     let DeviceAnswer::Wanted(device) = job::parse_device(input) else {
         return HeadAnswer::Refused(Error::BadTape);

@@ -1,1 +1,1 @@
-pub mod Taken
+pub mod Inside

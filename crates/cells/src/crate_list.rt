@@ -8,7 +8,7 @@ ghost use Rattle.laws.specs.Over.{_over_};
 ghost use Rattle.bus.specs.Lent.{does};
 ghost use Rattle.bus.specs.Raw.{asRaw};
 ghost use Rattle.moves.specs.Moves.{firstCells};
-ghost use Rattle.procedure.specs.Cells.{filled, handed, readCells, cellVoltages};
+ghost use Rattle.procedure.specs.Cells.{filled, handedBack, readCells, cellVoltages};
 use crate::Cells;
 use crate::inputs;
 use bq769x0::BQ769x0;
@@ -75,7 +75,7 @@ fn read_cells(device: BQ769x0, list: &mut [u32], tape: &[u8], log: &mut [u8], at
 
 // The leading part of the list, filled from the record; nothing where the count exceeds the list or 15.
 pub fn cells_of<'a>(device: BQ769x0, list: &'a mut [u32]) -> &'a mut [u32]
-    ensures { λ r. ⌜ (now r ≡ handed (device .«cell_count») (device .readings .cells) (length (now (list .entry))))
+    ensures { λ r. ⌜ (now r ≡ handedBack (device .«cell_count») (device .readings .cells) (length (now (list .entry))))
         × (r .ptr ≡ list .entry .ptr) ⌝ }
 {
     let n = device.cell_count as usize;

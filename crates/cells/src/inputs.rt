@@ -5,7 +5,7 @@ ghost use lib.ListN.{length};
 ghost use Rattle.numbers.specs.Numbers.{word};
 ghost use Rattle.adc.specs.Conversion.{millivolts};
 ghost use Rattle.bus.specs.Lent.{lentBus};
-ghost use Rattle.cells.specs.Taken.{Held, Taken};
+ghost use Rattle.cells.specs.Inside.{Held, Taken};
 use adc::transfer::AdcTransferFunction;
 use bus::Cursor;
 use bus::link::Link;

@@ -9,7 +9,7 @@ use native.Mathlib.Omega.{arith}
 use lib.Pow.{pow-pos, pow-mono, shr-lt, split}
 use lib.Bits.{bitXor, bitAnd, xor-lt, xor-comm, xor-mod, xor-shifted, and-mask}
 use Rattle.check_byte.specs.CheckByte.{divide, number, checkByte}
-use Rattle.check_byte.specs.Seven.{timesSeven}
+use Rattle.check_byte.specs.Inside.{timesSeven}
 use Rattle.check_byte.proofs.LongDivision.{divide-xor, divide-small, divide-byte, divide-on}
 use Rattle.check_byte.proofs.Product.{seven-lt, fold}
 use Rattle.check_byte.proofs.Message.{further, single}

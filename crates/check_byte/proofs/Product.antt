@@ -9,7 +9,7 @@ use lib.Arith.{lt-one, digits-lt}
 use lib.Pow.{pow-pos, pow-mono, shl-lt, split}
 use lib.Bits.{bitXor, xor-lt, xor-comm, xor-shifted}
 use Rattle.check_byte.specs.CheckByte.{divisor, coefficient, line, divide}
-use Rattle.check_byte.specs.Seven.{timesSeven}
+use Rattle.check_byte.specs.Inside.{timesSeven}
 use Rattle.check_byte.specs.Division.{timesDivisor}
 use Rattle.check_byte.proofs.Xor.{by-bit, xor-assoc, xor-swap, xor-shift, xor-undo}
 use Rattle.check_byte.proofs.LongDivision.{bit, top, line-xor, line-small, line-multiple, divide-xor}

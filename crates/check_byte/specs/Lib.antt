@@ -1,4 +1,4 @@
 pub mod CheckByte
 pub mod Division
 pub mod Error
-pub mod Seven
+pub mod Inside

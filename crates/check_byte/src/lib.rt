@@ -9,7 +9,7 @@ ghost use mathlib.Core.List.{[], _∷_};
 ghost use Prim.Native.Nat.{_^_, _<_};
 ghost use lib.Bits.{bitXor};
 ghost use Rattle.check_byte.specs.CheckByte.{divide, checkByte};
-ghost use Rattle.check_byte.specs.Seven.{timesSeven};
+ghost use Rattle.check_byte.specs.Inside.{timesSeven};
 
 // n times x^2 + x + 1, the bits 111.
 fn times_seven(n: u32) -> u32

@@ -17,10 +17,11 @@ use Rattle.frames.proofs.Put.{put-put, sets-put}
 use Rattle.laws.specs.Choice.{if_then_else_}
 use Rattle.numbers.specs.Numbers.{word}
 use Rattle.bus.specs.Decoders.{unlog}
-use Rattle.bus.specs.Fields.{field, unfield}
+use Rattle.fields.specs.Fields.{field, unfield}
 use Rattle.bus.specs.Transfers.{Transfer, write, read, Outcome, done, fault, tapeField}
-use Rattle.bus.proofs.Decoders.{fieldOf}
-use Rattle.chip.specs.Answering.{transferOf, answered, saying, tells, answerOn}
+use Rattle.fields.proofs.Fields.{fieldOf}
+use Rattle.chip.specs.Answering.{transferOf, answeredWith, tells, answerOn}
+use Rattle.chip.specs.Inside.{saying}
 use Rattle.chip.specs.Devices.{reached}
 use Rattle.chip.specs.Chip.{begun, answers, shows, carried, respondCut}
 use Rattle.chip.specs.declared.Chip.{Chip}
@@ -49,7 +50,7 @@ module _ (c d : Chip) (good : Bool) (v tape : List ℕ) (end : ℕ) where
   f = field (tag good) v
 
   told : tells c (reached (saying good v) d) tape end
-      ≡ (if leb (end + length f) (length tape) then (put tape end f, answered d (end + length f)) else (tape, answered c end))
+      ≡ (if leb (end + length f) (length tape) then (put tape end f, answeredWith d (end + length f)) else (tape, answeredWith c end))
   unfolding tells
   told = rw (said good v)
 
@@ -57,14 +58,14 @@ module _ (c d : Chip) (good : Bool) (v tape : List ℕ) (end : ℕ) where
   unfolding field
   size = omega arith
 
-  pub no-room : length tape < end + (3 + length v) → (tape, answered c end) ≡ tells c (reached (saying good v) d) tape end
+  pub no-room : length tape < end + (3 + length v) → (tape, answeredWith c end) ≡ tells c (reached (saying good v) d) tape end
   no-room h = sym (told ∙ rw (lt-leb (end + length f) (length tape) (omega (arith, size))))
 
   -- by the stores that the code makes: the head, and then the value
   pub with-room : end + (3 + length v) ≤ length tape → (n : ℕ) → length v ≡ n → (t : ℕ) → t ≡ tag good
       → (filled : List ℕ)
       → filled ≡ put (set (set (set tape end t) (end + 1) (n / 256 % 256)) (end + 2) (n % 256)) (end + 3) v
-      → (filled, answered d (end + 3 + n)) ≡ tells c (reached (saying good v) d) tape end
+      → (filled, answeredWith d (end + 3 + n)) ≡ tells c (reached (saying good v) d) tape end
   unfolding field
   with-room h n long t is filled e =
       let to : end + 3 + length v ≡ end + length f = omega (arith, size) in
@@ -269,7 +270,7 @@ other-field =
 
 -- ---- the answer, by the transfer
 module _ (cut : Option ℕ) (c : Chip) (l tape : List ℕ) (end : ℕ) where
-  pub answer-none : transferOf l ≡ none → (tape, answered c end) ≡ answerOn cut c l tape end
+  pub answer-none : transferOf l ≡ none → (tape, answeredWith c end) ≡ answerOn cut c l tape end
   unfolding answerOn
   answer-none e = rw e
 

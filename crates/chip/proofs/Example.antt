@@ -13,7 +13,7 @@ use Rattle.refusals.specs.Refusal.{Answer, refused}
 use Rattle.check_byte.specs.CheckByte.{checkByte, divide, line, coefficient, divisor, number}
 use Rattle.frames.specs.Frames.{readByte, writeByte, checked, right, dataOf, writeFrame, readFrame, framed}
 use Rattle.frames.specs.Put.{put}
-use Rattle.bus.specs.Fields.{field}
+use Rattle.fields.specs.Fields.{field}
 use Rattle.bus.specs.Transfers.{tapeField}
 use Rattle.bus.specs.Programs.{Prog, bind, proceed, _orLeave_, _>>=_}
 use Rattle.bus.specs.Raw.{Done, refuses, plainly, received, whereRight, checkedly, plainRead, askFrame, checkedRead, readRaw, readBytes}

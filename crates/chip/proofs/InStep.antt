@@ -15,7 +15,7 @@ use Rattle.frames.specs.Frames.{writeFrame}
 use Rattle.frames.specs.Put.{put}
 use Rattle.frames.proofs.Frames.{length-readFrame}
 use Rattle.laws.specs.Choice.{if_then_else_}
-use Rattle.bus.specs.Fields.{field}
+use Rattle.fields.specs.Fields.{field}
 use Rattle.bus.specs.Transfers.{Transfer, read, write, Outcome, tapeField}
 use Rattle.bus.specs.Programs.{Prog, ret, ask, bind, proceed, _orLeave_, _>>=_}
 use Rattle.bus.specs.Raw.{Read, Done, sound, wrote, verified, send, askBack, readBytes, writeRaw}

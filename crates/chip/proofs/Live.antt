@@ -14,7 +14,7 @@ use Rattle.laws.specs.Choice.{if_then_else_}
 use Rattle.refusals.specs.Refusal.{no}
 use Rattle.frames.specs.Put.{put}
 use Rattle.frames.proofs.Put.{length-put, take-put, put-over}
-use Rattle.bus.specs.Fields.{field}
+use Rattle.fields.specs.Fields.{field}
 use Rattle.bus.specs.Transfers.{Transfer, Outcome, fault, stopped, logField, tapeField, wanted}
 use Rattle.bus.specs.Transfers.{says, Bus, start, busOf, moved, after, answered, outcome}
 use Rattle.bus.specs.Programs.{Prog, ret, ask, Ran, onTape}

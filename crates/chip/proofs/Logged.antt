@@ -8,10 +8,10 @@ use Prim.Native.Nat.{ℕ, _+_, _≤_}
 use lib.ListN.{length}
 use borrow.Author.Tests.{le-leb}
 use Rattle.frames.specs.Put.{put}
-use Rattle.bus.specs.Fields.{unfield}
+use Rattle.fields.specs.Fields.{unfield}
 use Rattle.bus.specs.Transfers.{Transfer, logField, tapeField}
 use Rattle.bus.proofs.Decoders.{Short, unlog-log}
-use Rattle.chip.specs.Answering.{transferOf, answered, tells, answerOn}
+use Rattle.chip.specs.Answering.{transferOf, answeredWith, tells, answerOn}
 use Rattle.chip.specs.Chip.{respondCut}
 use Rattle.chip.specs.declared.Chip.{Chip}
 use Rattle.chip.specs.declared.answer.Answered.{Answered}
@@ -31,7 +31,7 @@ module _ (cut : Option ℕ) (c : Chip) (t : Transfer) (tape : List ℕ) (end : �
   said = tapeField (respondCut cut c t .answer)
 
   with-room : end + length said ≤ length tape
-      → tells c (respondCut cut c t) tape end ≡ (put tape end said, answered (respondCut cut c t .device) (end + length said))
+      → tells c (respondCut cut c t) tape end ≡ (put tape end said, answeredWith (respondCut cut c t .device) (end + length said))
   unfolding tells
   with-room h = rw (le-leb (end + length said) (length tape) h)
 

@@ -12,7 +12,7 @@ use Rattle.refusals.specs.Refusal.{Refusal, Answer, value, refused}
 use Rattle.frames.specs.Frames.{writeFrame}
 use Rattle.frames.proofs.Frames.{length-writeFrame}
 use Rattle.laws.specs.Choice.{if_then_else_}
-use Rattle.bus.specs.Fields.{field}
+use Rattle.fields.specs.Fields.{field}
 use Rattle.bus.specs.Transfers.{Transfer, read, write, Outcome, logField}
 use Rattle.bus.specs.Programs.{Prog, ret, ask, bind, proceed, _orLeave_, _>>=_}
 use Rattle.bus.specs.Raw.{sound, plainRead, askFrame, checkedRead, readRaw, readBytes, askWrite, send, askBack, writeRaw}

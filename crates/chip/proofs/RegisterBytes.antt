@@ -11,7 +11,7 @@ use Rattle.check_byte.specs.CheckByte.{checkByte, Bytes}
 use Rattle.frames.specs.Frames.{writeByte}
 use Rattle.frames.proofs.Frames.{bytes-readFrame}
 use Rattle.laws.specs.Choice.{if_then_else_}
-use Rattle.bus.specs.Fields.{field}
+use Rattle.fields.specs.Fields.{field}
 use Rattle.bus.specs.Transfers.{Transfer, write, read, Outcome, done, fault, stopped, tapeField}
 use Rattle.bus.proofs.OfBytes.{take-bytes}
 use Rattle.chip.specs.Devices.{Reached, reached}

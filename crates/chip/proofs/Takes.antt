@@ -13,7 +13,7 @@ use borrow.Author.Tests.{leb-true, eq-eqb}
 use Rattle.frames.specs.Frames.{writeByte}
 use Rattle.laws.specs.Choice.{if_then_else_}
 use Rattle.bus.specs.Transfers.{Transfer, write, Outcome, done, fault}
-use Rattle.chip.specs.Answering.{saying}
+use Rattle.chip.specs.Inside.{saying}
 use Rattle.chip.specs.Devices.{Reached, reached}
 use Rattle.chip.specs.Chip.{withRegs, begun, complete, stores, accepted, storedOf, written, acknowledged}
 use Rattle.chip.specs.Chip.{answers, carried, respondCut}

@@ -3,3 +3,4 @@ pub mod Live
 pub mod Chip
 pub mod OnChip
 pub mod Answering
+pub mod Inside

@@ -8,7 +8,7 @@ use native.Mathlib.Omega.{arith}
 use lib.ListN.{length}
 use borrow.Author.Tests.{le-leb, lt-leb}
 use Rattle.check_byte.specs.CheckByte.{Bytes}
-use Rattle.frames.specs.Frames.{writeByte, readByte, framed, writeFrame, readFrame, written}
+use Rattle.frames.specs.Frames.{writeByte, readByte, framed, writeFrame, readFrame, writtenFrame}
 use Rattle.frames.proofs.Checked.{length-checked, bytes-checked}
 
 length-framed : (check : Bool) (before bytes : List ℕ) → length (framed check before bytes) ≡ cond check 2 1 * length bytes
@@ -27,12 +27,12 @@ length-readFrame check address bytes = length-framed check (readByte address ∷
 
 -- up to eight bytes, and over eight
 pub written-frame : (check : Bool) (address reg : ℕ) (bytes : List ℕ) → length bytes ≤ 8
-    → written check address reg bytes ≡ writeFrame check address reg bytes
-unfolding written
+    → writtenFrame check address reg bytes ≡ writeFrame check address reg bytes
+unfolding writtenFrame
 written-frame check address reg bytes h = rw (le-leb (length bytes) 8 h)
 
-pub written-none : (check : Bool) (address reg : ℕ) (bytes : List ℕ) → 8 < length bytes → written check address reg bytes ≡ []
-unfolding written
+pub written-none : (check : Bool) (address reg : ℕ) (bytes : List ℕ) → 8 < length bytes → writtenFrame check address reg bytes ≡ []
+unfolding writtenFrame
 written-none check address reg bytes h = rw (lt-leb (length bytes) 8 h)
 
 -- of bytes, bytes

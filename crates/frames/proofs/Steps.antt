@@ -11,7 +11,7 @@ use lib.Dec.{lit<}
 use lib.ListN.{length, getD, drop, set, length-set, drop-of-length-le}
 use lib.Seq.{drop-cons}
 use Rattle.check_byte.specs.CheckByte.{checkByte}
-use Rattle.frames.specs.Frames.{writeByte, readByte, checked, framed, writeFrame, written}
+use Rattle.frames.specs.Frames.{writeByte, readByte, checked, framed, writeFrame, writtenFrame}
 use Rattle.frames.specs.Put.{put}
 use Rattle.frames.proofs.Frames.{length-writeFrame, written-frame}
 use Rattle.frames.proofs.Put.{put-none, put-more}
@@ -45,10 +45,10 @@ pub sent : (check is : Bool) (address reg : ℕ) (bytes out out₁ : List ℕ) (
     → length (set out 0 reg) ≡ 17
     → r ≡ cond is 2 1 * length bytes + 1
     → out₁ ≡ put (set out 0 reg) 1 (framed is (writeByte address ∷ reg ∷ []) bytes)
-    → (r ≡ length (written check address reg bytes)) × (out₁ ≡ put out 0 (written check address reg bytes))
+    → (r ≡ length (writtenFrame check address reg bytes)) × (out₁ ≡ put out 0 (writtenFrame check address reg bytes))
 unfolding writeFrame
 sent check is address reg bytes out out₁ r e few room n done =
-    let whole : written check address reg bytes ≡ writeFrame is address reg bytes =
+    let whole : writtenFrame check address reg bytes ≡ writeFrame is address reg bytes =
     written-frame check address reg bytes few ∙ ap (λ (b : Bool). writeFrame b address reg bytes) e in (
       n ∙ sym (ap length whole ∙ length-writeFrame is address reg bytes),
       done

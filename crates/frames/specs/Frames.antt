@@ -44,5 +44,5 @@ unfoldable pub readFrame : Bool → ℕ → List ℕ → List ℕ
 readFrame check address bytes = framed check (readByte address ∷ []) bytes
 
 -- the frame of a write of up to eight bytes, and nothing for data of more
-unfoldable pub written : Bool → ℕ → ℕ → List ℕ → List ℕ
-written check address reg bytes = cond (leb (length bytes) 8) (writeFrame check address reg bytes) []
+unfoldable pub writtenFrame : Bool → ℕ → ℕ → List ℕ → List ℕ
+writtenFrame check address reg bytes = cond (leb (length bytes) 8) (writeFrame check address reg bytes) []

@@ -5,7 +5,7 @@ ghost use mathlib.Core.List.{[], _∷_};
 ghost use Prim.Native.Nat.{_+_, _*_, _≤_, _<_};
 ghost use lib.ListN.{length, take, drop, replicate};
 ghost use Rattle.laws.specs.Choice.{if_then_else_};
-ghost use Rattle.frames.specs.Frames.{writeByte, readByte, checked, right, dataOf, written};
+ghost use Rattle.frames.specs.Frames.{writeByte, readByte, checked, right, dataOf, writtenFrame};
 ghost use Rattle.frames.specs.Put.{put};
 use check_byte::check_byte1;
 use check_byte::check_byte2;
@@ -45,8 +45,8 @@ fn put_alone(data: &[u8], out: &mut [u8])
 
 // The frame of a write into out, and its length. Data of over eight bytes is refused: nothing is written, and the length is 0.
 pub fn write_frame(check: bool, address: u8, reg: u8, data: &[u8], out: &mut [u8; 17]) -> usize
-    ensures { λ r. ⌜ (r ≡ length (written check address reg (now («data» .entry))))
-        × (now (out .exit) ≡ put (now (out .entry)) 0 (written check address reg (now («data» .entry)))) ⌝ }
+    ensures { λ r. ⌜ (r ≡ length (writtenFrame check address reg (now («data» .entry))))
+        × (now (out .exit) ≡ put (now (out .entry)) 0 (writtenFrame check address reg (now («data» .entry)))) ⌝ }
 {
     if data.len() > 8 {
         return 0;

@@ -2,26 +2,32 @@
 -- 256, that are accepted are their job written out, and then, from byte 34 on, the tape. So it is of the device alone, up to byte 7.
 -- Assumes nothing.
 use mathlib.Core.Path.{_≡_, refl, sym, ap, subst, _∙_}
-use mathlib.Core.Bool.{Bool, true, false, cond}
-use mathlib.Core.List.{List, [], _∷_, _++_}
-use Prim.Native.Nat.{ℕ, zero, suc, _+_, _*_, _/_, _%_, _≤_, _<_}
-use native.Mathlib.Numerals.{unary-clauses}
+use mathlib.Core.Bool.{Bool, true, false, cond, _&&_, and-eq-true-iff}
+use mathlib.Core.List.{List, [], _∷_, _++_, append-assoc}
+use mathlib.Core.Option.{Option, none, some}
+use Prim.Native.Nat.{ℕ, _+_, _<_, _≤_}
 use native.Mathlib.Omega.{arith}
-use lib.ListN.{length, drop}
-use lib.Seq.{drop-cons}
+use lib.ListN.{length, drop, drop-of-length-le}
+use lib.Seq.{getD-drop}
 use lib.Dec.{eqb, ltb, eqb→eq}
-use borrow.Author.Tests.{le-leb}
+use borrow.Author.Tests.{eqb-true, ltb-true}
 use Rattle.laws.proofs.Tests.{below}
-use Rattle.numbers.specs.Numbers.{word, four}
+use Rattle.numbers.specs.Numbers.{four}
 use Rattle.numbers.proofs.Bytes.{word4-four, four-word4}
-use Rattle.refusals.specs.Refusal.{value, refused, no}
+use Rattle.fields.specs.Fields.{Field, field, unfield}
+use Rattle.fields.proofs.Fields.{fieldOf, unfield-field, field-unfield, said, lies}
+use Rattle.refusals.specs.Refusal.{Answer, value, refused, no}
 use Rattle.refusals.proofs.Values.{refused-not, same-value}
-use Rattle.job.specs.Jobs.{byteAt, numberAt, isDevice, codesAt, isJob, deviceOf, configOf, deviceFor, jobOf}
-use Rattle.job.specs.Encoding.{zeroOrOne, deviceValue, configValue, field, fieldsOf}
+use Rattle.plan.specs.Order.{_andThen_}
+use Rattle.plan.specs.declared.Config.{Config}
+use Rattle.plan.proofs.Accepted.{first}
+use Rattle.job.specs.Jobs.{byteAt, numberAt, deviceAt, isDevice, configAt, codesAt, isConfig, passing, fieldFor, deviceFor, jobOf}
+use Rattle.job.specs.Encoding.{zeroOrOne, deviceValue, configValue, jobBytes}
 use Rattle.job.specs.declared.Device.{Device}
 use Rattle.job.specs.declared.Job.{Job}
 use Rattle.job.proofs.Codes.{scd-coded, ocd-coded, uv-coded, ov-coded}
-use Rattle.job.proofs.Tested.{Field, Tested, device-tested, tested}
+use Rattle.job.proofs.Places.{from, from-drop, byte-of}
+use Rattle.job.proofs.Tested.{config-tested}
 
 -- ---- written out, then read
 check-read : (b : Bool) → eqb (zeroOrOne b) 1 ≡ b
@@ -32,42 +38,33 @@ check-small : (b : Bool) → ltb (zeroOrOne b) 2 ≡ true
 check-small false = refl
 check-small true = refl
 
-pub device-alone : (d : Device) (rest : List ℕ) → deviceFor (field 0x20 (deviceValue d) ++ rest) ≡ value d
-unfolding deviceFor isDevice
-device-alone d rest =
-    let long : 7 ≤ length (field 0x20 (deviceValue d) ++ rest) = omega arith in
-    rw (le-leb _ _ long, check-small (d .check), check-read (d .check))
+module _ (d : Device) (rest : List ℕ) where
+  device-first : fieldFor 0x20 isDevice (field 0x20 (deviceValue d) ++ rest) ≡ value (fieldOf 0x20 (deviceValue d) rest)
+  unfolding fieldFor isDevice
+  device-first = rw (unfield-field 0x20 (deviceValue d) rest (omega arith), check-small (d .check))
 
-module _ (j : Job) (tape : List ℕ) where
-  abbrev bytes : List ℕ
-  bytes = fieldsOf j ++ tape
+  device-read : deviceAt (deviceValue d) 0 ≡ d
+  device-read = rw (check-read (d .check))
 
-  long : 34 ≤ length bytes
-  unfolding fieldsOf four
-  long = omega arith
+  pub device-alone : deviceFor (field 0x20 (deviceValue d) ++ rest) ≡ value d
+  unfolding deviceFor _andThen_
+  device-alone = rw (device-first, device-read)
 
-  is-job : isJob bytes ≡ true
-  unfolding isJob isDevice codesAt fieldsOf four
-  is-job =
-      let c = j .config in
+module _ (c : Config) (rest : List ℕ) where
+  config-first : fieldFor 0x21 isConfig (field 0x21 (configValue c) ++ rest) ≡ value (fieldOf 0x21 (configValue c) rest)
+  unfolding fieldFor isConfig codesAt four
+  config-first =
       rw (
-        le-leb 34 (length bytes) long,
-        le-leb 7 (length bytes) (omega (arith, long)),
-        check-small (j .device .check),
+        unfield-field 0x21 (configValue c) rest (omega arith),
         scd-coded .listed (c .«scd_delay»),
         ocd-coded .listed (c .«ocd_delay»),
         uv-coded .listed (c .«uv_delay»),
         ov-coded .listed (c .«ov_delay»),
       )
 
-  device-read : deviceOf bytes ≡ j .device
-  unfolding fieldsOf four
-  device-read = rw (check-read (j .device .check))
-
-  config-read : configOf bytes ≡ j .config
-  unfolding fieldsOf four
+  config-read : configAt (configValue c) 0 ≡ c
+  unfolding four
   config-read =
-      let c = j .config in
       rw (
         word4-four (c .shunt .0),
         word4-four (c .«scd_threshold» .0),
@@ -80,95 +77,149 @@ module _ (j : Job) (tape : List ℕ) where
         ov-coded .found (c .«ov_delay»),
       )
 
-  pub tape-follows : drop 34 bytes ≡ tape
-  unfolding fieldsOf four
+module _ (j : Job) (tape : List ℕ) where
+  abbrev after : List ℕ
+  after = field 0x21 (configValue (j .config)) ++ tape
+
+  pub tape-follows : drop 34 (jobBytes j ++ tape) ≡ tape
+  unfolding jobBytes field four
   tape-follows = refl
 
-  pub job-read : jobOf bytes ≡ value j
-  unfolding jobOf
-  job-read = rw (is-job, device-read, config-read)
+  parts : jobBytes j ++ tape ≡ field 0x20 (deviceValue (j .device)) ++ after
+  unfolding jobBytes
+  parts = append-assoc (field 0x20 (deviceValue (j .device))) (field 0x21 (configValue (j .config))) tape
+
+  pub job-read : jobOf (jobBytes j ++ tape) ≡ value j
+  unfolding jobOf _andThen_
+  job-read =
+      rw (
+        parts,
+        device-first (j .device) after,
+        config-first (j .config) tape,
+        device-read (j .device) after,
+        config-read (j .config) tape,
+      )
+
+device-ends : (d : Device) (rest : List ℕ) → drop 7 (field 0x20 (deviceValue d) ++ rest) ≡ rest
+unfolding field
+device-ends d rest = refl
 
 -- ---- read, then written out
--- n bytes from byte i on
-abbrev pub from : List ℕ → ℕ → ℕ → List ℕ
-from l i zero = []
-from l i (suc n) = byteAt l i ∷ from l (suc i) n
+empty : (l : List ℕ) (n : ℕ) → length l ≡ n → drop n l ≡ []
+empty l n e = let h : length l ≤ n = omega arith in drop-of-length-le l h
 
-pub from-drop : (l : List ℕ) (i n : ℕ) → i + n ≤ length l → drop i l ≡ from l i n ++ drop (i + n) l
-from-drop l i zero h = simp unary-clauses
-from-drop l i (suc n) h =
-    let here : i < length l = omega arith in
-    let rest : suc i + n ≤ length l = omega arith in
-    let end : suc i + n ≡ i + suc n = omega arith in
-    drop-cons l i 0 here
-    ∙ ap (λ (r : List ℕ). byteAt l i ∷ r) (from-drop l (suc i) n rest ∙ ap (λ (k : ℕ). from l (suc i) n ++ drop k l) end)
+-- a list of n bytes is its n bytes
+all-of : (l : List ℕ) (n : ℕ) → length l ≡ n → l ≡ from l 0 n ++ []
+all-of l n e =
+    let end : length l ≡ 0 + n = omega arith in
+    from-drop l 0 n (omega arith) ∙ ap (λ (r : List ℕ). from l 0 n ++ r) (empty l (0 + n) end)
 
 check-written : (n : ℕ) → n < 2 → zeroOrOne (eqb n 1) ≡ n
 check-written n h = eqb→eq _ _ (below 2 (λ n. eqb (zeroOrOne (eqb n 1)) n) tt n h)
 
+device-written : (v : List ℕ) → isDevice v ≡ true → v ≡ deviceValue (deviceAt v 0)
+unfolding isDevice
+device-written v e =
+    let t = and-eq-true-iff _ _ .0 e in
+    all-of v 4 (eqb-true _ _ (t .0)) ∙ rw (check-written (byteAt v 3) (ltb-true _ _ (t .1)))
+
+module _ (v : List ℕ) (small : (i : ℕ) → i < 24 → byteAt v i < 256) where
+  four-at : (i : ℕ) → i + 3 < 24
+      → four (numberAt v i) ≡ byteAt v i ∷ byteAt v (i + 1) ∷ byteAt v (i + 2) ∷ byteAt v (i + 3) ∷ []
+  four-at i h = four-word4 _ _ _ _ (small (i + 1) (omega arith)) (small (i + 2) (omega arith)) (small (i + 3) h)
+
+  config-written : isConfig v ≡ true → v ≡ configValue (configAt v 0)
+  unfolding isConfig
+  config-written e =
+      let codes = config-tested v e in
+      all-of v 24 (eqb-true _ _ (and-eq-true-iff _ _ .0 e .0))
+      ∙ rw (
+        four-at 0 (omega arith),
+        four-at 4 (omega arith),
+        four-at 8 (omega arith),
+        four-at 12 (omega arith),
+        four-at 16 (omega arith),
+        scd-coded .has (byteAt v 20) (codes .1),
+        ocd-coded .has (byteAt v 21) (codes .2),
+        uv-coded .has (byteAt v 22) (codes .3),
+        ov-coded .has (byteAt v 23) (codes .4),
+      )
+
+-- a field that was accepted
+pub record Passed (tag : ℕ) (test : List ℕ → Bool) (bytes : List ℕ) (f : Field) : Type 0 where
+  pub read : unfield bytes ≡ some f
+  pub tagged : f .tag ≡ tag
+  pub passes : test (f .value) ≡ true
+
+passed : (tag : ℕ) (test : List ℕ → Bool) (bytes : List ℕ) (f : Field) → fieldFor tag test bytes ≡ value f → Passed tag test bytes f
+unfolding fieldFor
+passed tag test bytes f e = by (unfield bytes) refl e
+  where
+    by : (o : Option Field) → unfield bytes ≡ o → passing tag test o ≡ value f → Passed tag test bytes f
+    by none r q = refused-not q
+    by (some g) r q = tested (eqb (g .tag) tag && test (g .value)) refl q
+      where
+        tested : (t : Bool) → eqb (g .tag) tag && test (g .value) ≡ t → cond t (value g) (refused (no 15 [])) ≡ value f
+            → Passed tag test bytes f
+        tested true h p =
+            let both = and-eq-true-iff _ _ .0 h in
+            subst (Passed tag test bytes) (same-value p)
+            (record { read = r; tagged = eqb-true _ _ (both .0); passes = both .1 })
+        tested false h p = refused-not p
+
 module _ (bytes : List ℕ) (small : (i : ℕ) → byteAt bytes i < 256) where
-  abbrev found : Job
-  found = record { device = deviceOf bytes; config = configOf bytes }
+  -- by the value and the rest that were read
+  whole : (tag : ℕ) (test : List ℕ → Bool) (f : Field) → Passed tag test bytes f → bytes ≡ field tag (f .value) ++ f .rest
+  whole tag test f p =
+      subst (λ (t : ℕ). bytes ≡ field t (f .value) ++ f .rest) (p .tagged)
+      (field-unfield bytes f (p .read) (small 1) (small 2) .is)
 
-  four-at : (i : ℕ) → four (numberAt bytes i) ≡ byteAt bytes i ∷ byteAt bytes (i + 1) ∷ byteAt bytes (i + 2) ∷ byteAt bytes (i + 3) ∷ []
-  four-at i = four-word4 _ _ _ _ (small (i + 1)) (small (i + 2)) (small (i + 3))
+  pub value-small : (f : Field) → unfield bytes ≡ some f → (i : ℕ) → i < length (f .value) → byteAt (f .value) i < 256
+  value-small f e i h =
+      let l = lies bytes f e in
+      subst (λ (g : Field). byteAt (g .value) i < 256) (l .is)
+      (rw (byte-of (said bytes) 3 bytes i (omega (arith, l .long))) (small (3 + i)))
 
-  -- a length of less than 256 is a zero byte and itself
-  high : (i n : ℕ) → word (byteAt bytes i) (byteAt bytes (i + 1)) ≡ n → n < 256 → byteAt bytes i ≡ 0
-  high i n e h = omega (arith, small (i + 1))
+  pub rest-small : (f : Field) → unfield bytes ≡ some f → (i : ℕ) → byteAt (f .rest) i < 256
+  rest-small f e i =
+      subst (λ (g : Field). byteAt (g .rest) i < 256) (lies bytes f e .is) (rw (getD-drop _ bytes i 0) (small _))
 
-  low : (i n : ℕ) → word (byteAt bytes i) (byteAt bytes (i + 1)) ≡ n → n < 256 → byteAt bytes (i + 1) ≡ n
-  low i n e h = omega (arith, small (i + 1))
+  device-part : (f : Field) → Passed 0x20 isDevice bytes f → bytes ≡ field 0x20 (deviceValue (deviceAt (f .value) 0)) ++ f .rest
+  device-part f p =
+      whole 0x20 isDevice f p ∙ ap (λ (v : List ℕ). field 0x20 v ++ f .rest) (device-written (f .value) (p .passes))
 
-  device-written : Field bytes 0 0x20 4 → byteAt bytes 6 < 2 → field 0x20 (deviceValue (deviceOf bytes)) ≡ from bytes 0 7
-  device-written f check =
-      rw (
-        check-written (byteAt bytes 6) check,
-        f .tagged,
-        high 1 4 (f .sized) (omega arith),
-        low 1 4 (f .sized) (omega arith),
-      )
-
-  config-written : Tested bytes → field 0x21 (configValue (configOf bytes)) ≡ from bytes 7 27
-  config-written t =
-      rw (
-        four-at 10,
-        four-at 14,
-        four-at 18,
-        four-at 22,
-        four-at 26,
-        scd-coded .has (byteAt bytes 30) (t .codes .1),
-        ocd-coded .has (byteAt bytes 31) (t .codes .2),
-        uv-coded .has (byteAt bytes 32) (t .codes .3),
-        ov-coded .has (byteAt bytes 33) (t .codes .4),
-        t .config .tagged,
-        high 8 24 (t .config .sized) (omega arith),
-        low 8 24 (t .config .sized) (omega arith),
-      )
-
-  written : Tested bytes → bytes ≡ fieldsOf found ++ drop 34 bytes
-  unfolding fieldsOf
-  written t =
-      from-drop bytes 0 34 (t .codes .0)
-      ∙ ap (λ (d : List ℕ). (d ++ from bytes 7 27) ++ drop 34 bytes) (sym (device-written (t .device) (t .check)))
-      ∙ ap (λ (c : List ℕ). (field 0x20 (deviceValue (deviceOf bytes)) ++ c) ++ drop 34 bytes) (sym (config-written t))
-
-  job-if : (b : Bool) → isJob bytes ≡ b → (j : Job) → cond b (value found) (refused (no 15 [])) ≡ value j → bytes ≡ fieldsOf j ++ drop 34 bytes
-  job-if true e j q = subst (λ (k : Job). bytes ≡ fieldsOf k ++ drop 34 bytes) (same-value q) (written (tested bytes e))
-  job-if false e j q = refused-not q
-
-  pub job-written : (j : Job) → jobOf bytes ≡ value j → bytes ≡ fieldsOf j ++ drop 34 bytes
-  unfolding jobOf
-  job-written j q = job-if (isJob bytes) refl j q
-
-  device-if : (b : Bool) → isDevice bytes ≡ b → (d : Device) → cond b (value (deviceOf bytes)) (refused (no 15 [])) ≡ value d
-      → bytes ≡ field 0x20 (deviceValue d) ++ drop 7 bytes
-  device-if true e d q =
-      let t = device-tested bytes e in
-      subst (λ (k : Device). bytes ≡ field 0x20 (deviceValue k) ++ drop 7 bytes) (same-value q)
-      (from-drop bytes 0 7 (t .0) ∙ ap (λ (l : List ℕ). l ++ drop 7 bytes) (sym (device-written (t .1) (t .2))))
-  device-if false e d q = refused-not q
+  config-part : (f : Field) → Passed 0x21 isConfig bytes f → bytes ≡ field 0x21 (configValue (configAt (f .value) 0)) ++ f .rest
+  unfolding isConfig
+  config-part f p =
+      let long : length (f .value) ≡ 24 = eqb-true _ _ (and-eq-true-iff _ _ .0 (p .passes) .0) in
+      whole 0x21 isConfig f p
+      ∙ ap (λ (v : List ℕ). field 0x21 v ++ f .rest)
+      (config-written (f .value) (λ i h. value-small f (p .read) i (omega arith)) (p .passes))
 
   pub device-alone-written : (d : Device) → deviceFor bytes ≡ value d → bytes ≡ field 0x20 (deviceValue d) ++ drop 7 bytes
   unfolding deviceFor
-  device-alone-written d q = device-if (isDevice bytes) refl d q
+  device-alone-written d q =
+      let one = first (fieldFor 0x20 isDevice bytes) _ q in
+      let f = one .0 in
+      let all = subst (λ (k : Device). bytes ≡ field 0x20 (deviceValue k) ++ f .rest) (same-value (one .1 .1))
+      (device-part f (passed 0x20 isDevice bytes f (one .1 .0))) in
+      rw (ap (drop 7) all ∙ device-ends d (f .rest)) all
+
+pub job-written : (bytes : List ℕ) → ((i : ℕ) → byteAt bytes i < 256) → (j : Job) → jobOf bytes ≡ value j
+    → bytes ≡ jobBytes j ++ drop 34 bytes
+unfolding jobOf
+job-written bytes small j q =
+    let one = first (fieldFor 0x20 isDevice bytes) _ q in
+    let f = one .0 in
+    let device = passed 0x20 isDevice bytes f (one .1 .0) in
+    let two = first (fieldFor 0x21 isConfig (f .rest)) _ (one .1 .1) in
+    let g = two .0 in
+    let config = passed 0x21 isConfig (f .rest) g (two .1 .0) in
+    let rest = config-part (f .rest) (rest-small bytes small f (device .read)) g config in
+    let made : Job = record { device = deviceAt (f .value) 0; config = configAt (g .value) 0 } in
+    let whole : bytes ≡ jobBytes made ++ g .rest =
+    device-part bytes small f device
+    ∙ ap (λ (r : List ℕ). field 0x20 (deviceValue (deviceAt (f .value) 0)) ++ r) rest
+    ∙ sym (parts made (g .rest)) in
+    let all = subst (λ (k : Job). bytes ≡ jobBytes k ++ g .rest) (same-value (two .1 .1)) whole in
+    rw (ap (drop 34) all ∙ tape-follows j (g .rest)) all

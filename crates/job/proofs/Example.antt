@@ -10,9 +10,11 @@ use Rattle.protection.specs.declared.delays.OCDDelay.the-variants as O
 use Rattle.protection.specs.declared.delays.UVDelay.the-variants as U
 use Rattle.protection.specs.declared.delays.OVDelay.the-variants as W
 use Rattle.refusals.specs.Refusal.{value, refused, no}
-use Rattle.job.specs.Jobs.{isDevice, codesAt, isJob, jobOf}
+use Rattle.fields.specs.Fields.{field, unfield}
+use Rattle.plan.specs.Order.{_andThen_}
+use Rattle.job.specs.Jobs.{isDevice, codesAt, isConfig, fieldFor, jobOf}
 use Rattle.numbers.specs.Numbers.{four}
-use Rattle.job.specs.Encoding.{fieldsOf}
+use Rattle.job.specs.Encoding.{jobBytes}
 use Rattle.job.specs.declared.Job.{Job}
 
 abbrev bytes : List ℕ
@@ -43,11 +45,11 @@ job = record {
 }
 
 pub example-read : jobOf bytes ≡ value job
-unfolding jobOf isJob isDevice codesAt
+unfolding jobOf fieldFor unfield isDevice isConfig codesAt _andThen_
 example-read = refl
 
-pub example-written : fieldsOf job ≡ bytes
-unfolding fieldsOf four
+pub example-written : jobBytes job ≡ bytes
+unfolding jobBytes field four
 example-written = refl
 
 -- a byte short, check 2, a field 21 of 23 bytes, SCD code 4
@@ -55,5 +57,5 @@ abbrev wrong : List (List ℕ)
 wrong = take 33 bytes ∷ set bytes 6 2 ∷ set bytes 9 23 ∷ set bytes 30 4 ∷ []
 
 pub wrong-refused : map jobOf wrong ≡ map (λ (_ : List ℕ). refused (no 15 [])) wrong
-unfolding jobOf isJob isDevice codesAt
+unfolding jobOf fieldFor unfield isDevice isConfig codesAt _andThen_
 wrong-refused = refl

@@ -1,4 +1,6 @@
 pub mod Accepted
+pub mod ByTests
+pub mod Places
 pub mod Agree
 pub mod Codes
 pub mod Example

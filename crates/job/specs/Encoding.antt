@@ -1,17 +1,14 @@
--- A job written out: field 20 and field 21, each a tag byte, a two-byte length, high first, and a value.
+-- A job written out: field 20 and field 21.
 -- Assumes nothing.
-use Prim.Native.Nat.{ℕ, _/_, _%_}
+use Prim.Native.Nat.{ℕ}
 use mathlib.Core.Bool.{Bool, true, false}
 use mathlib.Core.List.{List, [], _∷_, _++_}
-use lib.ListN.{length}
 use Rattle.numbers.specs.Numbers.{four}
+use Rattle.fields.specs.Fields.{field}
 use Rattle.protection.specs.Delays.{scdCode, ocdCode, uvCode, ovCode}
 use Rattle.plan.specs.declared.Config.{Config}
 use Rattle.job.specs.declared.Device.{Device}
 use Rattle.job.specs.declared.Job.{Job}
-
-abbrev pub field : ℕ → List ℕ → List ℕ
-field tag value = tag ∷ length value / 256 ∷ length value % 256 ∷ value
 
 abbrev pub zeroOrOne : Bool → ℕ
 zeroOrOne false = 0
@@ -31,5 +28,5 @@ configValue c =
     ++ four (c .«ov_threshold» .0)
     ++ scdCode (c .«scd_delay») ∷ ocdCode (c .«ocd_delay») ∷ uvCode (c .«uv_delay») ∷ ovCode (c .«ov_delay») ∷ []
 
-unfoldable pub fieldsOf : Job → List ℕ
-fieldsOf j = field 0x20 (deviceValue (j .device)) ++ field 0x21 (configValue (j .config))
+unfoldable pub jobBytes : Job → List ℕ
+jobBytes j = field 0x20 (deviceValue (j .device)) ++ field 0x21 (configValue (j .config))

@@ -1,3 +1,4 @@
 pub mod Delays
 pub mod Jobs
 pub mod Encoding
+pub mod Inside

@@ -2,8 +2,9 @@
 ghost use mathlib.Core.Path.{_≡_};
 ghost use Prim.Native.Nat.{_+_, _≤_, _<_};
 ghost use lib.ListN.{length};
-ghost use Rattle.job.specs.Jobs.{numberAt, isField, isDevice, codesAt, isConfig, isJob, ListedAt, deviceOf, configAt, deviceFor};
+ghost use Rattle.job.specs.Jobs.{numberAt, codesAt, isConfig, deviceOf, configAt, deviceFor};
 ghost use Rattle.job.specs.Jobs.{asDevice, configFor, asConfig, jobOf, asJob};
+ghost use Rattle.job.specs.Inside.{saysField, saysDevice, saysJob, ListedAt};
 ghost use Rattle.refusals.specs.Refusal.{asRefusal, refusalIn};
 ghost use Rattle.job.specs.Delays.{scdAt, ocdAt, uvAt, ovAt};
 use plan::Config;
@@ -120,14 +121,14 @@ fn number_at(job: &[u8], at: usize) -> u32
 // At `at` stands a field of this tag and length.
 fn is_field(job: &[u8], at: usize, tag: u8, len: u16) -> bool
     requires { ⌜ at + 3 ≤ length (now job) ⌝ }
-    ensures { λ r. ⌜ r ≡ isField (now (job .entry)) at tag len ⌝ }
+    ensures { λ r. ⌜ r ≡ saysField (now (job .entry)) at tag len ⌝ }
 {
     let said = numbers::be_u16(job[at + 1], job[at + 2]);
     (job[at] == tag) & (said == len)
 }
 
 fn is_device(job: &[u8]) -> bool
-    ensures { λ r. ⌜ r ≡ isDevice (now (job .entry)) ⌝ }
+    ensures { λ r. ⌜ r ≡ saysDevice (now (job .entry)) ⌝ }
 {
     if job.len() < 7 {
         return false;
@@ -153,7 +154,7 @@ pub fn is_config(value: &[u8]) -> bool
 }
 
 fn is_job(job: &[u8]) -> bool
-    ensures { λ r. ⌜ r ≡ isJob (now (job .entry)) ⌝ }
+    ensures { λ r. ⌜ r ≡ saysJob (now (job .entry)) ⌝ }
 {
     if job.len() < TAPE_AT {
         return false;

@@ -9,19 +9,19 @@ use Rattle.protection.specs.Ranges.{rangeFor, codeFor}
 use Rattle.protection.specs.Steps.{step, mvAcross}
 use Rattle.frames.specs.Frames.{writeFrame, framed}
 use Rattle.frames.specs.Put.{put}
-use Rattle.plan.specs.Order as order
+use Rattle.plan.specs.Order.{_andThen_}
 use Rattle.plan.specs.Plan.{setFor, planFor}
 use Rattle.plan.specs.Registers.{protectFor}
 use Rattle.plan.specs.Steps.{shuntFor, stepsFor}
 use Rattle.plan.specs.Trips.{tripCodeFor, obtainableOr, withinFor}
-use Rattle.job.specs.Jobs.{isDevice, codesAt, isJob, jobOf}
-use Rattle.bus.specs.Fields.{field, unfield}
+use Rattle.job.specs.Jobs.{isDevice, codesAt, isConfig, fieldFor, jobOf}
+use Rattle.fields.specs.Fields.{field, unfield}
 use Rattle.bus.specs.Transfers.{logField, tapeField, wanted, untape, says, start, busOf}
 use Rattle.bus.specs.Transfers.{moved, after, answered, outcome}
 use Rattle.bus.specs.Programs.{ran, onTape, bind, proceed, _>>=_}
 use Rattle.bus.specs.Raw.{plainly, plainRead, readRaw, readBytes}
 use Rattle.bus.specs.Raw.{wrote, askWrite, send, compared, verified, askBack, writeRaw}
-use Rattle.bq769x0.specs.Record.{deviceFor, leaves, newFor, isSound}
+use Rattle.bq769x0.specs.Record.{deviceAllowed, leaves, newFor, isSound}
 use Rattle.bq769x0.specs.Registers.{soundly}
 use Rattle.procedure.specs.Calibrate.{calibrate}
 use Rattle.procedure.specs.Init.{onwardBy, onward, startCounter, protect, initBy}
@@ -44,9 +44,9 @@ pub example :
     onTape (jobInit job) (busOf tape (replicate 52 0) start)
     ≡ ran (leaves (value values) done) tape log (record { tape = 32; log = 52 })
 unfolding
-    jobInit jobOf isJob isDevice codesAt
-    deviceFor newFor isSound soundly calibrate onwardBy onward startCounter protect initBy
-    order._>>=_ setFor planFor protectFor shuntFor stepsFor tripCodeFor obtainableOr withinFor
+    jobInit jobOf fieldFor isDevice isConfig codesAt
+    deviceAllowed newFor isSound soundly calibrate onwardBy onward startCounter protect initBy
+    _andThen_ setFor planFor protectFor shuntFor stepsFor tripCodeFor obtainableOr withinFor
     step mvAcross rangeFor codeFor
     onTape bind _>>=_ proceed readBytes readRaw plainRead plainly
     wrote askWrite send compared verified askBack writeRaw writeFrame framed

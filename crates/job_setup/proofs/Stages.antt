@@ -16,7 +16,7 @@ use Rattle.bus.specs.Transfers.{Bus}
 use Rattle.bus.specs.Programs.{Ran, onTape}
 use Rattle.bus.specs.Raw.{Done}
 use Rattle.bus.proofs.Programs.{pure-on, pure-off}
-use Rattle.bq769x0.specs.Record.{Left, leaves, leaving, deviceFor, fresh, madeBy, newFor}
+use Rattle.bq769x0.specs.Record.{Left, leaves, leaving, deviceAllowed, fresh, madeBy, newFor}
 use Rattle.bq769x0.specs.declared.BQ769x0.{BQ769x0}
 use Rattle.bq769x0.proofs.Keeps.{new-sound}
 use Rattle.bq769x0.proofs.Soundly.{sound-on}
@@ -39,10 +39,10 @@ unmade-by (refused s) made r e t = ap (λ (l : Left Done). l .device) e
 unmade : (x address n : ℕ) (check : Bool) {a : Answer Done} {d : BQ769x0} (r : Refusal)
     → leaves a d ≡ newFor x address n check → a ≡ refused r → d ≡ noDevice
 unfolding newFor
-unmade x address n check r e t = unmade-by (deviceFor x address n) (fresh x address n check) r e t
+unmade x address n check r e t = unmade-by (deviceAllowed x address n) (fresh x address n check) r e t
 
 none-made : {a : Answer Done} {d : BQ769x0} → leaves a d ≡ newFor 0 0 0 false → d ≡ noDevice
-unfolding newFor deviceFor
+unfolding newFor deviceAllowed
 none-made e = ap (λ (l : Left Done). l .device) e
 
 -- ---- `jobInit` of these bytes

@@ -1,3 +1,4 @@
 pub mod Word
 pub mod Pack
 pub mod Temperature
+pub mod Inside

@@ -13,18 +13,12 @@ use Rattle.commands.specs.declared.control.TemperatureSource.the-variants.{Inte
 use Rattle.measuring.specs.Word.{readWord}
 use Rattle.measuring.specs.declared.degrees.Temperature.{Temperature}
 use Rattle.measuring.specs.declared.degrees.Temperature.the-variants as T
-use Rattle.measuring.specs.declared.temperature.SensedAnswer.{SensedAnswer}
-use Rattle.measuring.specs.declared.temperature.SensedAnswer.the-variants as S
 use Rattle.measuring.specs.declared.temperature.TemperatureAnswer.{TemperatureAnswer}
 use Rattle.measuring.specs.declared.temperature.TemperatureAnswer.the-variants as A
 
 pub record Sensed : Type 0 where
   pub reading : ℕ
   pub source : TemperatureSource
-
-abbrev pub asSensed : SensedAnswer → Answer Sensed
-asSensed (S.Sensed reading source) = value (record { reading = reading; source = source })
-asSensed (S.Refused e) = refused (asRefusal e)
 
 unfoldable pub withSource : ℕ → BQ769x0 → Prog (Answer Sensed)
 withSource reading d = do

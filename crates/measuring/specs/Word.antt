@@ -3,16 +3,10 @@
 use Prim.Native.Nat.{ℕ}
 use lib.ListN.{getD}
 use Rattle.numbers.specs.Numbers.{word}
-use Rattle.refusals.specs.Refusal.{Answer, value, refused, asRefusal}
+use Rattle.refusals.specs.Refusal.{Answer, value, refused}
 use Rattle.bus.specs.Programs.{Prog, ret, _orLeave_, _>>=_}
 use Rattle.bus.specs.Raw.{readBytes}
 use Rattle.bus.specs.declared.link.Link.{Link}
-use Rattle.measuring.specs.declared.word.WordAnswer.{WordAnswer}
-use Rattle.measuring.specs.declared.word.WordAnswer.the-variants as W
-
-abbrev pub asWord : WordAnswer → Answer ℕ
-asWord (W.Word n) = value n
-asWord (W.Refused e) = refused (asRefusal e)
 
 unfoldable pub readWord : Link → ℕ → Prog (Answer ℕ)
 readWord s reg = do

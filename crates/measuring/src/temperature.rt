@@ -1,6 +1,7 @@
 // The temperature: the crate's reading in µV, named degrees, and where it comes from.
 ghost use Rattle.bus.specs.Lent.{does};
-ghost use Rattle.measuring.specs.Temperature.{asSensed, withSource, sense, asTemperature, temperature};
+ghost use Rattle.measuring.specs.Temperature.{withSource, sense, asTemperature, temperature};
+ghost use Rattle.measuring.specs.Inside.{asSensed};
 use crate::degrees;
 use crate::degrees::Temperature;
 use crate::word;

@@ -1,6 +1,7 @@
 // Two registers as one number, the high byte first.
 ghost use Rattle.bus.specs.Lent.{does};
-ghost use Rattle.measuring.specs.Word.{asWord, readWord};
+ghost use Rattle.measuring.specs.Word.{readWord};
+ghost use Rattle.measuring.specs.Inside.{asWord};
 use bq769x0::BQ769x0;
 use bus::Cursor;
 use bus::link::RawAnswer;

@@ -13,7 +13,7 @@ use Rattle.protection.specs.declared.range.OCDSCDRange.{OCDSCDRange}
 use Rattle.protection.specs.declared.range.OCDSCDRange.the-variants as R
 use Rattle.adc.specs.Trips.{readingOf, tripCode}
 use Rattle.plan.specs.Fields.{ofRange}
-use Rattle.plan.specs.Order.{_>>=_}
+use Rattle.plan.specs.Order.{_andThen_}
 use Rattle.plan.specs.Plan.{Planned, valuesFor, setFor, planFor}
 use Rattle.plan.specs.Registers.{protectOf, protectFor}
 use Rattle.plan.specs.Trips.{tripCodeFor}
@@ -23,18 +23,19 @@ use Rattle.plan.proofs.After.{choice}
 use Rattle.refusals.proofs.Values.{refused-not, same-value}
 
 -- a chain of steps that has a value has one at its first step, and goes on from it
-pub first : {A B : Type 0} (a : Answer A) (next : A → Answer B) {b : B} → a >>= next ≡ value b → (x : A) × ((a ≡ value x) × (next x ≡ value b))
-unfolding _>>=_
+pub first : {A B : Type 0} (a : Answer A) (next : A → Answer B) {b : B}
+    → a andThen next ≡ value b → (x : A) × ((a ≡ value x) × (next x ≡ value b))
+unfolding _andThen_
 first (value x) next e = (x, (refl, e))
 first (refused r) next e = refused-not e
 
 code-is : (gain : ℕ) (offset : ℤ) (asked : ℕ) {n : ℕ} → tripCodeFor gain offset asked ≡ value n → tripCode (readingOf gain offset asked) ≡ n
-unfolding tripCodeFor _>>=_
+unfolding tripCodeFor _andThen_
 code-is gain offset asked {n} e = by-test (eqb gain 0) e
   where
     by-test :
         (t : Bool)
-        → refusedIf t 9 (value (readingOf gain offset asked)) >>= (λ reading. value (tripCode reading)) ≡ value n
+        → refusedIf t 9 (value (readingOf gain offset asked)) andThen (λ reading. value (tripCode reading)) ≡ value n
         → tripCode (readingOf gain offset asked) ≡ n
     by-test true e = refused-not e
     by-test false e = same-value e
@@ -48,7 +49,7 @@ protect-is :
     (config : Config) (scd ocd : ℕ) (range : OCDSCDRange) {p : Protect}
     → protectFor config scd ocd range ≡ value p
     → protectIn config scd ocd range ≡ p
-unfolding protectFor codeFor _>>=_
+unfolding protectFor codeFor _andThen_
 protect-is config scd ocd R.Lower e = same-value e
 protect-is config scd ocd R.Upper e = same-value e
 protect-is config scd ocd R.Unknown e = refused-not e

@@ -13,7 +13,7 @@ use Rattle.protection.specs.Steps.{scdLower, scdUpper, ocdLower, ocdUpper}
 use Rattle.protection.specs.declared.range.OCDSCDRange.{OCDSCDRange}
 use Rattle.adc.specs.Trips.{readingOf, tripCode}
 use Rattle.plan.specs.Exactly.{isNo}
-use Rattle.plan.specs.Order.{_>>=_}
+use Rattle.plan.specs.Order.{_andThen_}
 use Rattle.plan.specs.Plan.{Planned, setFor, planFor}
 use Rattle.plan.specs.Steps.{badShunt}
 use Rattle.plan.specs.Trips.{tripCodeFor, withinFor}
@@ -27,7 +27,7 @@ abbrev pub codeOf : ℕ → ℤ → ℕ → ℕ
 codeOf gain offset asked = tripCode (readingOf gain offset asked)
 
 code-given : (gain : ℕ) (offset : ℤ) (asked : ℕ) → 0 < gain → tripCodeFor gain offset asked ≡ value (codeOf gain offset asked)
-unfolding tripCodeFor _>>=_
+unfolding tripCodeFor _andThen_
 code-given gain offset asked h = simp (ne-eqb gain 0 (omega arith))
 
 -- the range for two steps in mV
@@ -48,9 +48,9 @@ module _ (gain : ℕ) (offset : ℤ) (config : Config) (scd ocd : ℕ) where
   settled range = setFor gain offset config scd ocd range (codeOf gain offset ov) (codeOf gain offset uv)
 
   abbrev pub rest : OCDSCDRange → Answer Planned
-  rest range = withinFor gain offset ov uv >>= λ _. settled range
+  rest range = withinFor gain offset ov uv andThen λ _. settled range
 
-  pub past-9 : badShunt (config .shunt .0) ≡ false → 0 < gain → planFor gain offset config scd ocd ≡ choice scd ocd >>= rest
+  pub past-9 : badShunt (config .shunt .0) ≡ false → 0 < gain → planFor gain offset config scd ocd ≡ choice scd ocd andThen rest
   unfolding planFor
   past-9 shunt h =
       past _ _ (good _ shunt)
@@ -58,8 +58,9 @@ module _ (gain : ℕ) (offset : ℤ) (config : Config) (scd ocd : ℕ) where
       ∙ past _ _ (code-given gain offset uv h)
 
 -- an answer whose next step is never the refusal n is n just where the step itself is
-pub next-not : {A B : Type 0} (n : ℕ) (a : Answer A) (next : A → Answer B) → ((x : A) → isNo n (next x) ≡ false) → isNo n (a >>= next) ≡ isNo n a
-unfolding _>>=_
+pub next-not : {A B : Type 0} (n : ℕ) (a : Answer A) (next : A → Answer B)
+    → ((x : A) → isNo n (next x) ≡ false) → isNo n (a andThen next) ≡ isNo n a
+unfolding _andThen_
 next-not n (value x) next not = not x
 next-not n (refused r) next not = refl
 
@@ -82,8 +83,8 @@ pub after-6 :
     → eqb 6 n ≡ false
     → Only 6 a
     → ((x : A) → isNo n (next x) ≡ t)
-    → isNo n (a >>= next) ≡ not (isNo 6 a) && t
-unfolding _>>=_
+    → isNo n (a andThen next) ≡ not (isNo 6 a) && t
+unfolding _andThen_
 after-6 n (value x) next t other only says = says x
 after-6 {A = A} n (refused r) next t other only says =
     ap (λ (a : Answer A). isNo n a) (only r refl) ∙ other ∙ sym (ap (λ (a : Answer A). not (isNo 6 a) && t) (only r refl))

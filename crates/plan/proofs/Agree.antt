@@ -7,7 +7,7 @@ use Rattle.refusals.proofs.OneToOne.{answerBack, undone}
 use Rattle.protection.proofs.Agree.{scd-named, ocd-named}
 use Rattle.protection.specs.Scd as scd
 use Rattle.protection.specs.Ocd as ocd
-use Rattle.plan.specs.Plan.{Values, Outcome, asInit, asPlan}
+use Rattle.plan.specs.Plan.{Values, WithBytes, asInit, asPlan}
 use Rattle.plan.specs.Steps.{InMv, asSteps}
 use Rattle.plan.specs.declared.CalculatedValues.{CalculatedValues}
 use Rattle.plan.specs.declared.InitAnswer.{InitAnswer}
@@ -40,7 +40,7 @@ answer-undone : (a : InitAnswer) → answerBack ready I.Refused (asInit a) ≡ a
 answer-undone (I.Ready values) = refl
 answer-undone (I.Refused e) = ap I.Refused (undone e)
 
-abbrev planBack : Outcome → Plan
+abbrev planBack : WithBytes → Plan
 planBack o = record { answer = answerBack ready I.Refused (o .answer); regs = o .regs }
 
 plan-undone : (p : Plan) → planBack (asPlan p) ≡ p

@@ -11,7 +11,7 @@ use Rattle.protection.specs.declared.delays.OCDDelay.the-variants as O
 use Rattle.protection.specs.declared.delays.UVDelay.the-variants as U
 use Rattle.protection.specs.declared.delays.OVDelay.the-variants as W
 use Rattle.protection.specs.declared.range.OCDSCDRange.the-variants as R
-use Rattle.plan.specs.Order.{_>>=_}
+use Rattle.plan.specs.Order.{_andThen_}
 use Rattle.plan.specs.Plan.{setFor, planFor}
 use Rattle.plan.specs.Registers.{protectFor}
 use Rattle.plan.specs.Steps.{shuntFor, stepsFor}
@@ -32,7 +32,7 @@ config = record {
 }
 
 pub steps : stepsFor config ≡ value (record { scd = 56; ocd = 22 })
-unfolding stepsFor _>>=_ shuntFor step mvAcross
+unfolding stepsFor _andThen_ shuntFor step mvAcross
 steps = refl
 
 pub plan :
@@ -42,5 +42,5 @@ pub plan :
       values = record { range = R.Lower; scd = 56; ocd = 22; uv = 2797; ov = 4201 };
       regs = 0x13 ∷ 0x55 ∷ 0x50 ∷ 0xCF ∷ 0xDF ∷ 0x19 ∷ [];
     })
-unfolding planFor setFor _>>=_ shuntFor tripCodeFor rangeFor codeFor obtainableOr withinFor protectFor
+unfolding planFor setFor _andThen_ shuntFor tripCodeFor rangeFor codeFor obtainableOr withinFor protectFor
 plan = refl

@@ -11,7 +11,7 @@ use Rattle.protection.specs.Steps.{scdLower, scdUpper, ocdLower, ocdUpper}
 use Rattle.protection.specs.declared.range.OCDSCDRange.{OCDSCDRange}
 use Rattle.protection.specs.declared.range.OCDSCDRange.the-variants as R
 use Rattle.plan.specs.Exactly.{isNo}
-use Rattle.plan.specs.Order.{_>>=_}
+use Rattle.plan.specs.Order.{_andThen_}
 use Rattle.plan.specs.Plan.{Planned, setFor, planFor}
 use Rattle.plan.specs.Registers.{protectFor}
 use Rattle.plan.specs.declared.Config.{Config}
@@ -25,8 +25,8 @@ given-not :
     {A B : Type 0} (n : ℕ) (a : Answer A) (next : A → Answer B)
     → isNo n a ≡ false
     → ((x : A) → a ≡ value x → isNo n (next x) ≡ false)
-    → isNo n (a >>= next) ≡ false
-unfolding _>>=_
+    → isNo n (a andThen next) ≡ false
+unfolding _andThen_
 given-not n (value x) next here later = later x refl
 given-not n (refused r) next here later = here
 
@@ -48,7 +48,7 @@ module _ (gain : ℕ) (offset : ℤ) (config : Config) (scd ocd : ℕ) where
   Not20 ovCode uvCode range = isNo 20 (setFor gain offset config scd ocd range ovCode uvCode) ≡ false
 
   set-not : (range : OCDSCDRange) → choice scd ocd ≡ value range → (ovCode uvCode : ℕ) → Not20 ovCode uvCode range
-  unfolding setFor protectFor codeFor _>>=_
+  unfolding setFor protectFor codeFor _andThen_
   set-not range e ovCode uvCode = chosen (Not20 ovCode uvCode) refl refl range scd ocd e
 
   pub never-20 : isNo 20 (planFor gain offset config scd ocd) ≡ false

@@ -11,7 +11,7 @@ use Rattle.protection.specs.Ranges.{rangeBits, codeFor, hasLower, hasUpper, for
 use Rattle.protection.specs.Steps.{mvAcross, chosen, stepFor}
 use Rattle.protection.specs.declared.range.OCDSCDRange.{OCDSCDRange}
 use Rattle.protection.specs.declared.range.OCDSCDRange.the-variants as R
-use Rattle.plan.specs.Order.{_>>=_}
+use Rattle.plan.specs.Order.{_andThen_}
 use Rattle.plan.specs.Registers.{protectFor}
 use Rattle.plan.specs.Steps.{badShunt, shuntFor}
 use Rattle.plan.specs.Trips.{tripCodeFor}
@@ -28,10 +28,10 @@ value-only n a r e = refused-not (sym e)
 refused-only : {A : Type 0} (n : ℕ) → Only {A = A} n (refused (no n []))
 refused-only n r e = refl
 
-then-only : {A B : Type 0} (n : ℕ) (a : Answer A) (next : A → Answer B) → Only n a → ((x : A) → Only n (next x)) → Only n (a >>= next)
-unfolding _>>=_
+then-only : {A B : Type 0} (n : ℕ) (a : Answer A) (next : A → Answer B) → Only n a → ((x : A) → Only n (next x)) → Only n (a andThen next)
+unfolding _andThen_
 then-only {A = A} n (value x) next here later = later x
-then-only {A = A} n (refused r) next here later = λ s e. ap (λ (b : Answer A). b >>= next) (here r refl)
+then-only {A = A} n (refused r) next here later = λ s e. ap (λ (b : Answer A). b andThen next) (here r refl)
 
 if-only : {A : Type 0} (n : ℕ) (t : Bool) (a : A) → Only n (refusedIf t n (value a))
 if-only n true a = refused-only n

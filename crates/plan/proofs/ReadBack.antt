@@ -12,7 +12,7 @@ use Rattle.protection.specs.Ocd as ocd
 use Rattle.protection.specs.declared.range.OCDSCDRange.{OCDSCDRange}
 use Rattle.protection.specs.declared.scd.SCDThreshold.{SCDThreshold}
 use Rattle.protection.specs.declared.ocd.OCDThreshold.{OCDThreshold}
-use Rattle.adc.specs.Registers.{field}
+use Rattle.adc.specs.Registers.{bitField}
 use Rattle.adc.specs.Trips.{readingOf, tripCode}
 use Rattle.plan.specs.Fields.{readBack, fieldsOf}
 use Rattle.plan.specs.declared.Config.{Config}
@@ -21,41 +21,41 @@ use Rattle.plan.proofs.Fits.{scd-delay<, ocd-delay<, uv-delay<, ov-dela
 
 -- PROTECT1, of a range bit r, a delay d and a code k
 module _ (r d k : ℕ) (r< : r < 2) (d< : d < 4) (k< : k < 8) where
-  rsns : field 7 7 (r * 128 + d * 8 + k) ≡ r
+  rsns : bitField 7 7 (r * 128 + d * 8 + k) ≡ r
   rsns = omega arith
 
-  scd-reserved : field 6 5 (r * 128 + d * 8 + k) ≡ 0
+  scd-reserved : bitField 6 5 (r * 128 + d * 8 + k) ≡ 0
   scd-reserved = omega arith
 
-  scd-delay : field 4 3 (r * 128 + d * 8 + k) ≡ d
+  scd-delay : bitField 4 3 (r * 128 + d * 8 + k) ≡ d
   scd-delay = omega arith
 
-  scd-thresh : field 2 0 (r * 128 + d * 8 + k) ≡ k
+  scd-thresh : bitField 2 0 (r * 128 + d * 8 + k) ≡ k
   scd-thresh = omega arith
 
 -- PROTECT2, of a delay d and a code k
 module _ (d k : ℕ) (d< : d < 8) (k< : k < 16) where
-  ocd-reserved : field 7 7 (d * 16 + k) ≡ 0
+  ocd-reserved : bitField 7 7 (d * 16 + k) ≡ 0
   ocd-reserved = omega arith
 
-  ocd-delay : field 6 4 (d * 16 + k) ≡ d
+  ocd-delay : bitField 6 4 (d * 16 + k) ≡ d
   ocd-delay = omega arith
 
-  ocd-thresh : field 3 0 (d * 16 + k) ≡ k
+  ocd-thresh : bitField 3 0 (d * 16 + k) ≡ k
   ocd-thresh = omega arith
 
 -- PROTECT3, of the delays u and o
 module _ (u o : ℕ) (u< : u < 4) (o< : o < 4) where
-  uv-delay : field 7 6 (u * 64 + o * 16) ≡ u
+  uv-delay : bitField 7 6 (u * 64 + o * 16) ≡ u
   uv-delay = omega arith
 
-  ov-delay : field 5 4 (u * 64 + o * 16) ≡ o
+  ov-delay : bitField 5 4 (u * 64 + o * 16) ≡ o
   ov-delay = omega arith
 
-  voltage-reserved : field 3 0 (u * 64 + o * 16) ≡ 0
+  voltage-reserved : bitField 3 0 (u * 64 + o * 16) ≡ 0
   voltage-reserved = omega arith
 
-whole : (n : ℕ) → n < 256 → field 7 0 n ≡ n
+whole : (n : ℕ) → n < 256 → bitField 7 0 n ≡ n
 whole n h = omega arith
 
 trip< : (z : ℤ) → tripCode z < 256

@@ -9,29 +9,29 @@ use lib.Dec.{eqb}
 use lib.IntN.{ℤ}
 use Rattle.refusals.specs.Refusal.{Answer, value, refused, no}
 use Rattle.plan.specs.Exactly.{isNo}
-use Rattle.plan.specs.Order.{_>>=_}
+use Rattle.plan.specs.Order.{_andThen_}
 use Rattle.plan.specs.Trips.{ovLimits, uvLimits, figures, obtainable, obtainableOr, withinFor}
 
 abbrev test : Bool → ℕ → List ℤ → Answer (Unit {0})
 test t n figures = cond t (value tt) (refused (no n figures))
 
 abbrev both : Bool → Bool → List ℤ → List ℤ → Answer (Unit {0})
-both a b f g = test a 8 f >>= λ _. test b 7 g
+both a b f g = test a 8 f andThen λ _. test b 7 g
 
 no-8 : (a b : Bool) (f g : List ℤ) → isNo 8 (both a b f g) ≡ not a
-unfolding _>>=_
+unfolding _andThen_
 no-8 true true f g = refl
 no-8 true false f g = refl
 no-8 false b f g = refl
 
 no-7 : (a b : Bool) (f g : List ℤ) → isNo 7 (both a b f g) ≡ a && not b
-unfolding _>>=_
+unfolding _andThen_
 no-7 true true f g = refl
 no-7 true false f g = refl
 no-7 false b f g = refl
 
 no-other : (n : ℕ) → eqb 8 n ≡ false → eqb 7 n ≡ false → (a b : Bool) (f g : List ℤ) → isNo n (both a b f g) ≡ false
-unfolding _>>=_
+unfolding _andThen_
 no-other n not-8 not-7 true true f g = refl
 no-other n not-8 not-7 true false f g = not-7
 no-other n not-8 not-7 false b f g = not-8

@@ -4,7 +4,7 @@ use Prim.Native.Nat.{ℕ}
 use mathlib.Core.List.{List, [], _∷_}
 use lib.ListN.{getD}
 use lib.IntN.{ℤ}
-use Rattle.adc.specs.Registers.{field}
+use Rattle.adc.specs.Registers.{bitField}
 use Rattle.adc.specs.Trips.{readingOf, tripCode}
 use Rattle.protection.specs.Delays.{scdCode, ocdCode, uvCode, ovCode}
 use Rattle.protection.specs.Ranges.{codeIn}
@@ -32,17 +32,17 @@ readBack regs =
     let b07 = getD regs 1 0 in
     let b08 = getD regs 2 0 in
     record {
-      rsns = field 7 7 b06;
-      scdDelay = field 4 3 b06;
-      scdThresh = field 2 0 b06;
-      ocdDelay = field 6 4 b07;
-      ocdThresh = field 3 0 b07;
-      uvDelay = field 7 6 b08;
-      ovDelay = field 5 4 b08;
-      ovTrip = field 7 0 (getD regs 3 0);
-      uvTrip = field 7 0 (getD regs 4 0);
-      ccCfg = field 7 0 (getD regs 5 0);
-      reserved = field 6 5 b06 ∷ field 7 7 b07 ∷ field 3 0 b08 ∷ [];
+      rsns = bitField 7 7 b06;
+      scdDelay = bitField 4 3 b06;
+      scdThresh = bitField 2 0 b06;
+      ocdDelay = bitField 6 4 b07;
+      ocdThresh = bitField 3 0 b07;
+      uvDelay = bitField 7 6 b08;
+      ovDelay = bitField 5 4 b08;
+      ovTrip = bitField 7 0 (getD regs 3 0);
+      uvTrip = bitField 7 0 (getD regs 4 0);
+      ccCfg = bitField 7 0 (getD regs 5 0);
+      reserved = bitField 6 5 b06 ∷ bitField 7 7 b07 ∷ bitField 3 0 b08 ∷ [];
     }
 
 -- what the range used picks of the lower's and the upper's; no plan uses Unknown

@@ -7,3 +7,4 @@ pub mod Exactly
 pub mod Fields
 pub mod AsAsked
 pub mod InNumbers
+pub mod Inside

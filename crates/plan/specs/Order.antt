@@ -2,7 +2,7 @@
 -- Assumes nothing.
 use Rattle.refusals.specs.Refusal.{Answer, value, refused}
 
-infixl 10 _>>=_
-unfoldable pub _>>=_ : {A B : Type 0} → Answer A → (A → Answer B) → Answer B
-value a >>= next = next a
-refused r >>= next = refused r
+infixl 10 _andThen_
+unfoldable pub _andThen_ : {A B : Type 0} → Answer A → (A → Answer B) → Answer B
+value a andThen next = next a
+refused r andThen next = refused r

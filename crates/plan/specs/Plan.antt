@@ -10,7 +10,7 @@ use Rattle.protection.specs.Steps.{scdLower, scdUpper, ocdLower, ocdUpper}
 use Rattle.protection.specs.declared.range.OCDSCDRange.{OCDSCDRange}
 use Rattle.adc.specs.Conversion.{millivolts}
 use Rattle.adc.specs.Trips.{ovTrip, uvTrip}
-use Rattle.plan.specs.Order.{_>>=_}
+use Rattle.plan.specs.Order.{_andThen_}
 use Rattle.plan.specs.Steps.{shuntFor}
 use Rattle.plan.specs.Trips.{tripCodeFor, withinFor}
 use Rattle.plan.specs.Registers.{protectFor}
@@ -45,7 +45,7 @@ valuesFor gain offset shunt scd ocd range ovCode uvCode = record {
 -- 06, 07 and 08, then OV_TRIP (09), UV_TRIP (0A) and CC_CFG (0B)
 unfoldable pub setFor : ℕ → ℤ → Config → ℕ → ℕ → OCDSCDRange → ℕ → ℕ → Answer Planned
 setFor gain offset config scd ocd range ovCode uvCode =
-    protectFor config scd ocd range >>= λ protect.
+    protectFor config scd ocd range andThen λ protect.
     value
     (record {
       values = valuesFor gain offset (config .shunt .0) scd ocd range ovCode uvCode;
@@ -55,22 +55,22 @@ setFor gain offset config scd ocd range ovCode uvCode =
 -- 12, 9, 6, 8, 7, and else the setting, whose range is never Unknown; scd and ocd are the steps in mV
 unfoldable pub planFor : ℕ → ℤ → Config → ℕ → ℕ → Answer Planned
 planFor gain offset config scd ocd =
-    shuntFor (config .shunt .0) >>= λ _.
-    tripCodeFor gain offset (config .«ov_threshold» .0) >>= λ ovCode.
-    tripCodeFor gain offset (config .«uv_threshold» .0) >>= λ uvCode.
-    forBoth (rangeFor scdLower scdUpper scd) (rangeFor ocdLower ocdUpper ocd) >>= λ range.
-    withinFor gain offset (config .«ov_threshold» .0) (config .«uv_threshold» .0) >>= λ _.
+    shuntFor (config .shunt .0) andThen λ _.
+    tripCodeFor gain offset (config .«ov_threshold» .0) andThen λ ovCode.
+    tripCodeFor gain offset (config .«uv_threshold» .0) andThen λ uvCode.
+    forBoth (rangeFor scdLower scdUpper scd) (rangeFor ocdLower ocdUpper ocd) andThen λ range.
+    withinFor gain offset (config .«ov_threshold» .0) (config .«uv_threshold» .0) andThen λ _.
     setFor gain offset config scd ocd range ovCode uvCode
 
 -- an answer, and the bytes beside it
-pub record Outcome : Type 0 where
+pub record WithBytes : Type 0 where
   pub answer : Answer Values
   pub regs : List ℕ
 
 -- a refusal has six zeros beside it
-abbrev pub outcome : Answer Planned → Outcome
-outcome (value planned) = record { answer = value (planned .values); regs = planned .regs }
-outcome (refused r) = record { answer = refused r; regs = 0 ∷ 0 ∷ 0 ∷ 0 ∷ 0 ∷ 0 ∷ [] }
+abbrev pub withBytes : Answer Planned → WithBytes
+withBytes (value planned) = record { answer = value (planned .values); regs = planned .regs }
+withBytes (refused r) = record { answer = refused r; regs = 0 ∷ 0 ∷ 0 ∷ 0 ∷ 0 ∷ 0 ∷ [] }
 
 abbrev pub asValues : CalculatedValues → Values
 asValues v = record {
@@ -85,5 +85,5 @@ abbrev pub asInit : InitAnswer → Answer Values
 asInit (I.Ready values) = value (asValues values)
 asInit (I.Refused e) = refused (asRefusal e)
 
-abbrev pub asPlan : Plan → Outcome
+abbrev pub asPlan : Plan → WithBytes
 asPlan p = record { answer = asInit (p .answer); regs = p .regs }

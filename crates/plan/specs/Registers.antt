@@ -1,16 +1,14 @@
 -- PROTECT1 (06), PROTECT2 (07) and PROTECT3 (08) for a configuration, two steps in mV, and the range used.
 -- Assumes nothing.
 use Prim.Native.Nat.{ℕ, _+_}
-use Rattle.refusals.specs.Refusal.{Answer, value, refused, asRefusal}
+use Rattle.refusals.specs.Refusal.{Answer, value}
 use Rattle.protection.specs.Delays.{scdBits, ocdBits, uvBits, ovBits}
 use Rattle.protection.specs.Ranges.{rangeBits, codeFor}
 use Rattle.protection.specs.Steps.{scdLower, scdUpper, ocdLower, ocdUpper}
 use Rattle.protection.specs.declared.range.OCDSCDRange.{OCDSCDRange}
-use Rattle.plan.specs.Order.{_>>=_}
+use Rattle.plan.specs.Order.{_andThen_}
 use Rattle.plan.specs.declared.Config.{Config}
 use Rattle.plan.specs.declared.six_bytes.Protect.{Protect}
-use Rattle.plan.specs.declared.six_bytes.ProtectAnswer.{ProtectAnswer}
-use Rattle.plan.specs.declared.six_bytes.ProtectAnswer.the-variants as P
 
 -- range in bit 7 of 06, the SCD delay in 4-3, the SCD code below it; the OCD delay in 6-4 of 07, the OCD code below it;
 -- the UV delay in 7-6 of 08, the OV delay in 5-4
@@ -24,11 +22,7 @@ protectOf config rangeBit scdCode ocdCode = record {
 -- each code from the list of the range used; range Unknown is 20
 unfoldable pub protectFor : Config → ℕ → ℕ → OCDSCDRange → Answer Protect
 protectFor config scd ocd range =
-    rangeBits range >>= λ rangeBit.
-    codeFor scdLower scdUpper range scd >>= λ scdCode.
-    codeFor ocdLower ocdUpper range ocd >>= λ ocdCode.
+    rangeBits range andThen λ rangeBit.
+    codeFor scdLower scdUpper range scd andThen λ scdCode.
+    codeFor ocdLower ocdUpper range ocd andThen λ ocdCode.
     value (protectOf config rangeBit scdCode ocdCode)
-
-abbrev pub asProtect : ProtectAnswer → Answer Protect
-asProtect (P.Bytes protect) = value protect
-asProtect (P.Refused e) = refused (asRefusal e)

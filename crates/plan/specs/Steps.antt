@@ -8,7 +8,7 @@ use Rattle.refusals.specs.Refusal.{Answer, value, refused, refusedIf, asRefusal
 use Rattle.protection.specs.Steps.{scdLower, scdUpper, ocdLower, ocdUpper, step, stepFor}
 use Rattle.protection.specs.Scd as scd
 use Rattle.protection.specs.Ocd as ocd
-use Rattle.plan.specs.Order.{_>>=_}
+use Rattle.plan.specs.Order.{_andThen_}
 use Rattle.plan.specs.declared.Config.{Config}
 use Rattle.plan.specs.declared.Steps.{Steps}
 use Rattle.plan.specs.declared.StepsAnswer.{StepsAnswer}
@@ -28,9 +28,9 @@ pub record InMv : Type 0 where
 -- 12 for the shunt; 13 for a current, the short circuit's first; each step from the lists of both ranges
 unfoldable pub stepsFor : Config → Answer InMv
 stepsFor config =
-    shuntFor (config .shunt .0) >>= λ shunt.
-    stepFor (scdLower ++ scdUpper) (config .«scd_threshold» .0) shunt >>= λ scd.
-    stepFor (ocdLower ++ ocdUpper) (config .«ocd_threshold» .0) shunt >>= λ ocd.
+    shuntFor (config .shunt .0) andThen λ shunt.
+    stepFor (scdLower ++ scdUpper) (config .«scd_threshold» .0) shunt andThen λ scd.
+    stepFor (ocdLower ++ ocdUpper) (config .«ocd_threshold» .0) shunt andThen λ ocd.
     value (record { scd = scd; ocd = ocd })
 
 -- the same two where none is refused: the least step of both ranges' lists at or above (amperes × shunt) / 1000, rounded down, or the highest

@@ -5,16 +5,14 @@ use mathlib.Core.Bool.{Bool, cond, _&&_}
 use mathlib.Core.List.{List, [], _∷_}
 use lib.Dec.{leb}
 use lib.IntN.{ℤ, pos}
-use Rattle.refusals.specs.Refusal.{Answer, value, refused, no, asRefusal}
+use Rattle.refusals.specs.Refusal.{Answer, value, refused, no}
 use Rattle.adc.specs.Trips.{ovTrip, uvTrip, limits, askedReading, tripCode}
 use Rattle.adc.specs.declared.transfer.Limits.{Limits}
-use Rattle.plan.specs.Order.{_>>=_}
-use Rattle.plan.specs.declared.six_bytes.Within.{Within}
-use Rattle.plan.specs.declared.six_bytes.Within.the-variants as W
+use Rattle.plan.specs.Order.{_andThen_}
 
 -- the code for an asked voltage; a gain of 0 is 9
 unfoldable pub tripCodeFor : ℕ → ℤ → ℕ → Answer ℕ
-tripCodeFor gain offset asked = askedReading gain offset asked >>= λ reading. value (tripCode reading)
+tripCodeFor gain offset asked = askedReading gain offset asked andThen λ reading. value (tripCode reading)
 
 -- what the trip registers can stand for: the voltages in mV at codes 00 and FF
 abbrev pub ovLimits : ℕ → ℤ → Limits
@@ -37,9 +35,5 @@ obtainableOr n asked limits = cond (obtainable asked limits) (value tt) (refused
 -- 8 for the overvoltage, then 7 for the undervoltage
 unfoldable pub withinFor : ℕ → ℤ → ℕ → ℕ → Answer (Unit {0})
 withinFor gain offset ov uv =
-    obtainableOr 8 ov (ovLimits gain offset) >>= λ _.
+    obtainableOr 8 ov (ovLimits gain offset) andThen λ _.
     obtainableOr 7 uv (uvLimits gain offset)
-
-abbrev pub asWithin : Within → Answer (Unit {0})
-asWithin W.Both = value tt
-asWithin (W.Refused e) = refused (asRefusal e)

@@ -7,9 +7,11 @@ ghost use Rattle.protection.specs.Steps.{scdLower, scdUpper, ocdLower, ocdUpper
 ghost use Rattle.protection.specs.Scd as scd;
 ghost use Rattle.protection.specs.Ocd as ocd;
 ghost use Rattle.refusals.specs.Refusal.{refused, asRefusal};
-ghost use Rattle.plan.specs.Plan.{planFor, outcome, asPlan, setFor, valuesFor, asValues};
-ghost use Rattle.plan.specs.Registers.{protectOf, protectFor, asProtect};
-ghost use Rattle.plan.specs.Trips.{tripCodeFor, obtainable, withinFor, asWithin};
+ghost use Rattle.plan.specs.Plan.{planFor, withBytes, asPlan, setFor, valuesFor, asValues};
+ghost use Rattle.plan.specs.Registers.{protectOf, protectFor};
+ghost use Rattle.plan.specs.Inside.{asProtect};
+ghost use Rattle.plan.specs.Trips.{tripCodeFor, obtainable, withinFor};
+ghost use Rattle.plan.specs.Inside.{asWithin};
 use crate::CalculatedValues;
 use crate::Config;
 use crate::InitAnswer;
@@ -29,7 +31,7 @@ use units::MilliVolts;
 
 pub fn plan(adc: AdcTransferFunction, config: Config, steps: Steps) -> Plan
     ensures { λ r. ⌜ asPlan r
-        ≡ outcome (planFor (adc .gain) (adc .offset) config (scd.mvOf (steps .scd)) (ocd.mvOf (steps .ocd))) ⌝ }
+        ≡ withBytes (planFor (adc .gain) (adc .offset) config (scd.mvOf (steps .scd)) (ocd.mvOf (steps .ocd))) ⌝ }
 {
     let shunt = config.shunt;
     if crate::bad_shunt(shunt) {
@@ -54,7 +56,7 @@ pub fn plan(adc: AdcTransferFunction, config: Config, steps: Steps) -> Plan
 }
 
 fn refused(e: Error) -> Plan
-    ensures { λ r. ⌜ asPlan r ≡ outcome (refused (asRefusal e)) ⌝ }
+    ensures { λ r. ⌜ asPlan r ≡ withBytes (refused (asRefusal e)) ⌝ }
 {
     Plan {
         answer: InitAnswer::Refused(e),
@@ -196,7 +198,7 @@ fn set(
 ) -> Plan
     requires { ⌜ 0 < config .shunt .0 ⌝ }
     ensures { λ r. ⌜ asPlan r
-        ≡ outcome
+        ≡ withBytes
         (setFor (adc .gain) (adc .offset) config
         (scd.mvOf (steps .scd)) (ocd.mvOf (steps .ocd)) range «ov_bits» «uv_bits») ⌝ }
 {

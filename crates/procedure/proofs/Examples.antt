@@ -17,19 +17,19 @@ use Rattle.protection.specs.declared.delays.UVDelay.the-variants as UD
 use Rattle.protection.specs.declared.delays.OVDelay.the-variants as VD
 use Rattle.frames.specs.Frames.{writeFrame, framed}
 use Rattle.frames.specs.Put.{put}
-use Rattle.plan.specs.Order as order
+use Rattle.plan.specs.Order.{_andThen_}
 use Rattle.plan.specs.Plan.{Values, setFor, planFor}
 use Rattle.plan.specs.Registers.{protectFor}
 use Rattle.plan.specs.Steps.{shuntFor, stepsFor}
 use Rattle.plan.specs.Trips.{tripCodeFor, obtainableOr, withinFor}
 use Rattle.plan.specs.declared.Config.{Config}
-use Rattle.bus.specs.Fields.{field, unfield}
+use Rattle.fields.specs.Fields.{field, unfield}
 use Rattle.bus.specs.Transfers.{logField, tapeField, wanted, untape, says, start, busOf}
 use Rattle.bus.specs.Transfers.{moved, after, answered, outcome}
 use Rattle.bus.specs.Programs.{Ran, ran, onTape, bind, proceed, _>>=_}
 use Rattle.bus.specs.Raw.{plainly, plainRead, readRaw, readBytes}
 use Rattle.bus.specs.Raw.{wrote, askWrite, send, compared, verified, askBack, writeRaw}
-use Rattle.bq769x0.specs.Record.{Left, deviceFor, fresh, leaves, isSound, withCalibration, withShunt}
+use Rattle.bq769x0.specs.Record.{Left, deviceAllowed, fresh, leaves, isSound, withCalibration, withShunt}
 use Rattle.bq769x0.specs.Registers.{soundly}
 use Rattle.bq769x0.specs.declared.BQ769x0.{BQ769x0}
 use Rattle.procedure.specs.Calibrate.{calibrate}
@@ -129,8 +129,8 @@ scope = onTape (initBy stepsFor device config) (busOf tape (replicate 52 0) star
 pub examples : (scope .answer ≡ leaves (value values) done) × (scope .bus .log ≡ log)
     × (map (λ (e : Row). e .0) rows ≡ map (λ (e : Row). e .1) rows)
 unfolding
-    deviceFor isSound soundly calibrate onwardBy onward startCounter protect initBy
-    order._>>=_ setFor planFor protectFor shuntFor stepsFor tripCodeFor obtainableOr withinFor
+    deviceAllowed isSound soundly calibrate onwardBy onward startCounter protect initBy
+    _andThen_ setFor planFor protectFor shuntFor stepsFor tripCodeFor obtainableOr withinFor
     step mvAcross rangeFor codeFor
     onTape bind _>>=_ proceed readBytes readRaw plainRead plainly
     wrote askWrite send compared verified askBack writeRaw writeFrame framed

@@ -55,5 +55,5 @@ cellVoltages d list = soundly d (untouched d list nine) (do
   readCells d list)
 
 -- the leading part of a list with room for so many; nothing where the count exceeds the room or 15
-abbrev pub handed : ℕ → List MilliVolts → ℕ → List ℕ
-handed n cells room = if ltb room n || ltb 15 n then [] else firstCells n cells
+abbrev pub handedBack : ℕ → List MilliVolts → ℕ → List ℕ
+handedBack n cells room = if ltb room n || ltb 15 n then [] else firstCells n cells

@@ -3,7 +3,7 @@
 use mathlib.Core.Path.{_≡_, ap, sym, _∙_}
 use mathlib.Core.List.{List}
 use Prim.Native.Nat.{ℕ}
-use Rattle.protection.specs.Rows.{rowFor}
+use Rattle.protection.specs.Inside.{rowFor}
 use Rattle.protection.specs.declared.Row.{Row}
 
 pub row-is :

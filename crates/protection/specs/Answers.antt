@@ -4,8 +4,6 @@ use Prim.Native.Nat.{ℕ}
 use Rattle.refusals.specs.Refusal.{Answer, value, refused, asRefusal}
 use Rattle.protection.specs.Scd as scd
 use Rattle.protection.specs.Ocd as ocd
-use Rattle.protection.specs.declared.Across.{Across}
-use Rattle.protection.specs.declared.Across.the-variants as A
 use Rattle.protection.specs.declared.range.Code.{Code}
 use Rattle.protection.specs.declared.range.Code.the-variants as C
 use Rattle.protection.specs.declared.range.OCDSCDRange.{OCDSCDRange}
@@ -15,10 +13,6 @@ use Rattle.protection.specs.declared.scd.SCDStep.{SCDStep}
 use Rattle.protection.specs.declared.scd.SCDStep.the-variants as S
 use Rattle.protection.specs.declared.ocd.OCDStep.{OCDStep}
 use Rattle.protection.specs.declared.ocd.OCDStep.the-variants as O
-
-abbrev pub asAcross : Across → Answer ℕ
-asAcross (A.Mv n) = value n
-asAcross (A.Refused e) = refused (asRefusal e)
 
 abbrev pub asCode : Code → Answer ℕ
 asCode (C.Bits n) = value n

@@ -5,3 +5,4 @@ pub mod Scd
 pub mod Ocd
 pub mod Answers
 pub mod Delays
+pub mod Inside

@@ -1,6 +1,7 @@
 // The chip's protection settings: the delays, and the steps at which a short circuit (SCD) and an overcurrent (OCD) trip.
 ghost use mathlib.Core.Path.{_≡_};
-ghost use Rattle.protection.specs.Answers.{asAcross, asCode};
+ghost use Rattle.protection.specs.Answers.{asCode};
+ghost use Rattle.protection.specs.Inside.{asAcross};
 ghost use Rattle.protection.specs.Ranges.{inRange};
 ghost use Rattle.protection.specs.Steps.{mvAcross};
 use range::Code;

@@ -10,7 +10,7 @@ use lib.Seq.{take-all}
 use borrow.Author.Tests.{le-ltb}
 use Rattle.bus.proofs.Raws.{verified-done}
 use Rattle.refusals.specs.Refusal.{Refusal, Answer, value, refused}
-use Rattle.frames.specs.Frames.{readByte, right, dataOf, writeFrame, written}
+use Rattle.frames.specs.Frames.{readByte, right, dataOf, writeFrame, writtenFrame}
 use Rattle.frames.specs.Put.{put}
 use Rattle.frames.proofs.Frames.{length-writeFrame, written-frame}
 use Rattle.frames.proofs.Put.{length-put, take-front}
@@ -20,7 +20,7 @@ use Rattle.bus.specs.Raw.{Done, refuses, Read, gives, plainly, received, whereR
 use Rattle.bus.specs.Raw.{plainRead, askFrame, wrote, askWrite, compared, verified, askBack}
 use Rattle.bus.specs.declared.Cursor.{Cursor}
 use Rattle.bus.specs.declared.link.Link.{Link}
-use Rattle.raw.specs.Replies.{outcomeOf, answerTo, taken, storedIn, WentBy, ReadBy, WrittenBy}
+use Rattle.raw.specs.Inside.{outcomeOf, answerTo, taken, bufferAfter, WentBy, ReadBy, WrittenBy}
 use Rattle.raw.specs.declared.transfer.Moved.{Moved}
 use Rattle.raw.specs.declared.transfer.Reply.{Reply}
 use Rattle.raw.specs.declared.transfer.Reply.the-variants.{Made, Stopped}
@@ -34,7 +34,7 @@ asked-by t b f w = λ i. record { answer = f (w .went i); bus = w .bus i }
 
 -- ---- without checks
 plainly-is : (buf held : List ℕ) (r : Reply)
-    → gives (answerTo r) (storedIn buf (outcomeOf r held)) ≡ plainly buf (outcomeOf r held)
+    → gives (answerTo r) (bufferAfter buf (outcomeOf r held)) ≡ plainly buf (outcomeOf r held)
 unfolding plainly
 plainly-is buf held (Made true n) = refl
 plainly-is buf held (Made false n) = refl
@@ -46,7 +46,7 @@ module _ (s : Link) (reg : ℕ) (buf : List ℕ) (b : Bus) where
       → ran (gives (answerTo (m .reply)) buf′) (b .tape) log′ (m .at) ≡ onTape (plainRead s reg buf) b
   unfolding plainRead
   plain-read h m buf′ log′ r =
-      let stored = r .stored ∙ ap (storedIn buf) (sym (r .moved .went)) in
+      let stored = r .stored ∙ ap (bufferAfter buf) (sym (r .moved .went)) in
       rw (le-ltb _ _ h)
       (ap (λ (x : Read). ran x (b .tape) log′ (m .at))
       (ap (gives (answerTo (m .reply))) stored ∙ plainly-is buf buf′ (m .reply))
@@ -70,7 +70,7 @@ module _ (address : ℕ) (buf frame : List ℕ) where
   unfolding taken whereRight
   taken-right n e = rw e
 
-  taken-is : (r : Reply) → frame ≡ storedIn (replicate (2 * length buf) 0) (outcomeOf r frame)
+  taken-is : (r : Reply) → frame ≡ bufferAfter (replicate (2 * length buf) 0) (outcomeOf r frame)
       → taken address buf frame r ≡ checkedly address buf (outcomeOf r frame)
   unfolding taken checkedly received
   taken-is (Made true n) e = ap (λ (x : List ℕ). whereRight address buf x (gives (refuses 2) buf)) e
@@ -84,7 +84,7 @@ pub frame-read : (address reg : ℕ) (buf : List ℕ) (b : Bus) (m : Moved) (fra
     → ran x (b .tape) log (m .at) ≡ onTape (askFrame address reg buf) b
 unfolding askFrame
 frame-read address reg buf b m frame log x e r =
-    let stored = r .stored ∙ ap (storedIn (replicate (2 * length buf) 0)) (sym (r .moved .went)) in
+    let stored = r .stored ∙ ap (bufferAfter (replicate (2 * length buf) 0)) (sym (r .moved .went)) in
     ap (λ (y : Read). ran y (b .tape) log (m .at)) (e ∙ taken-is address buf frame (m .reply) stored)
     ∙ asked-by (read address reg (2 * length buf)) b (checkedly address buf) (r .moved)
 
@@ -149,8 +149,8 @@ module _ (check : Bool) (address reg : ℕ) (bytes : List ℕ) (few : length byt
       by-check false e = omega arith
 
   module _ (out out′ : List ℕ) (n : ℕ) (room : length out ≡ 17)
-      (size : n ≡ length (written check address reg bytes))
-      (is : out′ ≡ put out 0 (written check address reg bytes)) where
+      (size : n ≡ length (writtenFrame check address reg bytes))
+      (is : out′ ≡ put out 0 (writtenFrame check address reg bytes)) where
     whole : n ≡ length (writeFrame check address reg bytes)
     whole = size ∙ ap length (written-frame check address reg bytes few)
 

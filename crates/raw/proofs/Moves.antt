@@ -14,25 +14,25 @@ use Rattle.refusals.specs.declared.Error.{Error}
 use Rattle.frames.specs.Put.{put}
 use Rattle.frames.proofs.Put.{take-front}
 use Rattle.laws.specs.Choice.{if_then_else_}
-use Rattle.bus.specs.Fields.{field}
+use Rattle.fields.specs.Fields.{field}
 use Rattle.bus.specs.Transfers.{Transfer, Outcome, stopped, Bus, busOf}
 use Rattle.bus.specs.Transfers.{logField, tapeField, wanted, moved, after, says, answered, outcome}
-use Rattle.raw.specs.Replies.{delivered, outcomeOf, Within, Heard, storedIn, WentBy, ReadBy, WrittenBy}
+use Rattle.raw.specs.Inside.{endedAs, outcomeOf, Within, Heard, bufferAfter, WentBy, ReadBy, WrittenBy}
 use Rattle.raw.proofs.Heard.{few, fitting}
 use Rattle.raw.specs.declared.transfer.Reply.{Reply}
 use Rattle.raw.specs.declared.transfer.Reply.the-variants.{Made, Stopped}
 
 -- what was delivered was not stopped
-not-stopped : {X : Type 0} (f : Bool) (v : List ℕ) (r : Refusal) → delivered f v ≡ stopped r → X
+not-stopped : {X : Type 0} (f : Bool) (v : List ℕ) (r : Refusal) → endedAs f v ≡ stopped r → X
 not-stopped true v r e = let z : _≡_ {A = ℕ} 0 1 = cc in absurd (omega arith)
 not-stopped false v r e = let z : _≡_ {A = ℕ} 0 1 = cc in absurd (omega arith)
 
 room-if : (f : Bool) (v : List ℕ) (o : Outcome) (p q : ℕ) (c : Bool) → leb p q ≡ c
-    → delivered f v ≡ (if c then o else stopped (no 17 [])) → p ≤ q
+    → endedAs f v ≡ (if c then o else stopped (no 17 [])) → p ≤ q
 room-if f v o p q true e h = leb-true p q e
 room-if f v o p q false e h = not-stopped f v (no 17 []) h
 
-stored-made : (buf v : List ℕ) (f : Bool) → storedIn buf (delivered f v) ≡ put buf 0 v
+stored-made : (buf v : List ℕ) (f : Bool) → bufferAfter buf (endedAs f v) ≡ put buf 0 v
 stored-made buf v true = refl
 stored-made buf v false = refl
 
@@ -63,7 +63,7 @@ module _ (t : Transfer) (b : Bus) where
     pub read-stopped : (buf : List ℕ) → ReadBy t b buf (record { reply = Stopped e; at = b .at }) buf (b .log)
     read-stopped buf = record {
       moved = went-stopped;
-      stored = ap (storedIn buf) (h .said);
+      stored = ap (bufferAfter buf) (h .said);
       whole = λ k q. let z : _≡_ {A = ℕ} 0 1 = cc in absurd (omega arith);
     }
 
@@ -94,14 +94,14 @@ module _ (t : Transfer) (b : Bus) where
     three : from + suc (suc (suc n)) ≡ from + 3 + n
     three = omega arith
 
-    pub outcome-is : outcome t b ≡ delivered f bytes
-    outcome-is = sym (h .said) ∙ ap (delivered f) is-bytes
+    pub outcome-is : outcome t b ≡ endedAs f bytes
+    outcome-is = sym (h .said) ∙ ap (endedAs f) is-bytes
 
     -- tape and log after it
     bus-after : (g : Bool)
         → busOf (b .tape) (put (b .log) used (logField t))
         (record { tape = from + 3 + n; log = used + length (logField t) })
-        ≡ after t (delivered g bytes) b
+        ≡ after t (endedAs g bytes) b
     unfolding after moved tapeField field
     bus-after true = rw (length-bytes, three)
     bus-after false = rw (length-bytes, three)
@@ -111,7 +111,7 @@ module _ (t : Transfer) (b : Bus) where
         → (end : ℕ) → end ≡ used + length (logField t)
         → WentBy t b (outcomeOf (Made f n) held) log (record { tape = from + 3 + n; log = end })
     went-made held e log l end u = record {
-      went = ap (delivered f) e ∙ sym outcome-is;
+      went = ap (endedAs f) e ∙ sym outcome-is;
       bus = rw (l, u) (bus-after f ∙ ap (λ (o : Outcome). after t o b) (sym outcome-is));
     }
 
@@ -137,7 +137,7 @@ module _ (t : Transfer) (b : Bus) where
         → ReadBy t b buf (record { reply = Made f n; at = record { tape = from + 3 + n; log = end } }) buf′ log
     read-by buf buf′ w e log l end u = record {
       moved = went-made buf′ (ap (take n) e ∙ front buf (omega (arith, w, at-most))) log l end u;
-      stored = e ∙ sym (ap (storedIn buf) outcome-is ∙ stored-made buf bytes f);
+      stored = e ∙ sym (ap (bufferAfter buf) outcome-is ∙ stored-made buf bytes f);
       whole = λ k q. exact (length buf) k w q;
     }
 

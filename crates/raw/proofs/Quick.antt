@@ -24,7 +24,7 @@ use Rattle.bus.specs.Raw.{Done, sound, refuses, Read, gives, readRaw, askBack, 
 use Rattle.bus.specs.declared.Cursor.{Cursor}
 use Rattle.bus.specs.declared.link.Link.{Link}
 use Rattle.bus.proofs.Raws.{checked-goes, read-checked, read-plain, send-goes, write-done, write-back}
-use Rattle.raw.specs.Replies.{answerTo, taken, onward, ReadBy, WrittenBy, GotBy, SentBy, EchoedBy}
+use Rattle.raw.specs.Inside.{answerTo, taken, further, ReadBy, WrittenBy, GotBy, SentBy, EchoedBy}
 use Rattle.raw.specs.declared.transfer.Moved.{Moved}
 use Rattle.raw.specs.declared.transfer.Reply.{Reply}
 use Rattle.raw.specs.declared.transfer.Reply.the-variants.{Made, Stopped}
@@ -196,7 +196,7 @@ into-zeros zero n e r = rw (e, length-replicate {A = ℕ} (2 * n) 0) at r
 module _ (s : Link) (reg : ℕ) (buf : List ℕ) (b : Bus) (ok : sound s ≡ true) (within : reg + length buf ≤ 256) where
   pub read-well : {buf′ log′ : List ℕ} → s .check ≡ false
       → GotBy (read (s .address) reg (length buf)) b buf true buf′ log′
-      → ran (gives (value tt) buf′) (b .tape) log′ (onward (b .at) (3 + length buf) 7) ≡ onTape (readRaw s reg buf) b
+      → ran (gives (value tt) buf′) (b .tape) log′ (further (b .at) (3 + length buf) 7) ≡ onTape (readRaw s reg buf) b
   read-well c g = plain-read s reg buf b within _ _ _ (g .0) ∙ read-plain s reg buf b ok c
 
   -- into a frame that is zero before
@@ -204,9 +204,9 @@ module _ (s : Link) (reg : ℕ) (buf : List ℕ) (b : Bus) (ok : sound s ≡ tru
       → zeros ≡ replicate (2 * length buf) 0
       → GotBy (read (s .address) reg (length zeros)) b zeros true frame log′
       → x ≡ taken (s .address) buf frame (Made false (length zeros))
-      → ran x (b .tape) log′ (onward (b .at) (3 + length zeros) 7) ≡ onTape (readRaw s reg buf) b
+      → ran x (b .tape) log′ (further (b .at) (3 + length zeros) 7) ≡ onTape (readRaw s reg buf) b
   frame-well {zeros} {frame} {log′} x c few some z g e =
-      let m : Moved = record { reply = Made false (length zeros); at = onward (b .at) (3 + length zeros) 7 } in
+      let m : Moved = record { reply = Made false (length zeros); at = further (b .at) (3 + length zeros) 7 } in
       frame-read (s .address) reg buf b m frame log′ x e (into-zeros zeros (length buf) z (g .0))
       ∙ checked-goes s reg buf b few some within
       ∙ read-checked s reg buf b ok c
@@ -217,10 +217,10 @@ module _ (s : Link) (reg : ℕ) (bytes frame : List ℕ) (b : Bus) {log′ : Lis
     (is : frame ≡ writeFrame (s .check) (s .address) reg bytes)
     (sent : SentBy (write (s .address) frame) b (length frame) true log′) where
   abbrev after : Bus
-  after = busOf (b .tape) log′ (onward (b .at) 3 (4 + length frame))
+  after = busOf (b .tape) log′ (further (b .at) 3 (4 + length frame))
 
   move : Moved
-  move = record { reply = Made false 0; at = onward (b .at) 3 (4 + length frame) }
+  move = record { reply = Made false 0; at = further (b .at) 3 (4 + length frame) }
 
   went : record { answer = value tt; bus = after } ≡ onTape (send s reg bytes) b
   unfolding move
@@ -228,7 +228,7 @@ module _ (s : Link) (reg : ℕ) (bytes frame : List ℕ) (b : Bus) {log′ : Lis
       write-sent s reg bytes b move log′ (subst (λ (l : List ℕ). WrittenBy (write (s .address) l) b move log′) is (sent .0))
       ∙ send-goes s reg bytes b ok few some within
 
-  pub sent-well : s .check ≡ true → ran (value tt) (b .tape) log′ (onward (b .at) 3 (4 + length frame)) ≡ onTape (writeRaw s reg bytes) b
+  pub sent-well : s .check ≡ true → ran (value tt) (b .tape) log′ (further (b .at) 3 (4 + length frame)) ≡ onTape (writeRaw s reg bytes) b
   sent-well c = write-done s reg bytes b after (value tt) went refl (rw c)
 
   pub sent-back : s .check ≡ false → onTape (askBack (s .address) reg bytes) after ≡ onTape (writeRaw s reg bytes) b

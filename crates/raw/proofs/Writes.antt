@@ -17,7 +17,7 @@ use Rattle.bus.specs.Programs.{Ran, ran, onTape}
 use Rattle.bus.specs.Raw.{Done, sound, compared, writeRaw}
 use Rattle.bus.specs.declared.Cursor.{Cursor}
 use Rattle.bus.specs.declared.link.Link.{Link}
-use Rattle.raw.specs.Replies.{onward, SentBy, EchoedBy}
+use Rattle.raw.specs.Inside.{further, SentBy, EchoedBy}
 use Rattle.raw.proofs.Asked.{back-on}
 use Rattle.raw.proofs.Quick.{from-same, sent-well, sent-back}
 
@@ -82,7 +82,7 @@ module _ (s : Link) (reg : ℕ) (bytes held : List ℕ) (b : Bus) (same : bytes 
 
     pub write-checked : {log′ : List ℕ} {n : ℕ} {at : Cursor} → s .check ≡ true → frame ≡ writeFrame true (s .address) reg held
         → SentBy (write (s .address) frame) b (length frame) true log′
-        → 4 + length frame ≡ n → at ≡ onward (b .at) 3 n
+        → 4 + length frame ≡ n → at ≡ further (b .at) 3 n
         → ran (value tt) (b .tape) log′ at ≡ onTape (writeRaw s reg bytes) b
     write-checked c is sent size next =
         rw (next, ← size) (sent-well s reg held frame b ok few not-none within (framed-as c is) sent c) ∙ as-given
@@ -92,7 +92,7 @@ module _ (s : Link) (reg : ℕ) (bytes held : List ℕ) (b : Bus) (same : bytes 
         → frame ≡ writeFrame false (s .address) reg held
         → EchoedBy (write (s .address) frame) (read (s .address) reg (length back)) b (length frame) back true back′ log′
         → length back ≡ length held → length back′ ≡ length back
-        → x ≡ compared reg held back′ → at ≡ onward (b .at) (3 + (3 + length back)) (4 + length frame + 7)
+        → x ≡ compared reg held back′ → at ≡ further (b .at) (3 + (3 + length back)) (4 + length frame + 7)
         → ran x (b .tape) log′ at ≡ onTape (writeRaw s reg bytes) b
     write-plain {back} {back′} {log′} c is (sent, back-read, reaches) size kept e next =
         rw (e, next, ← add-assoc (b .at .tape) 3 (3 + length back), ← add-assoc (b .at .log) (4 + length frame) 7)

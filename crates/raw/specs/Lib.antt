@@ -1,1 +1,1 @@
-pub mod Replies
+pub mod Inside

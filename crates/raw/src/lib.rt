@@ -5,7 +5,7 @@ ghost use lib.ListN.{length, replicate, take};
 ghost use Rattle.frames.specs.Put.{put};
 ghost use Rattle.bus.specs.Lent.{does};
 ghost use Rattle.bus.specs.Raw.{asRaw, gives, readRaw, askWrite, send, compared, askBack, writeRaw};
-ghost use Rattle.raw.specs.Replies.{answerTo, onward, taken};
+ghost use Rattle.raw.specs.Inside.{answerTo, further, taken};
 ghost use Rattle.raw.specs.declared.transfer.Reply.the-variants.{Made};
 use crate::transfer::Reply;
 use bus::Cursor;
@@ -47,7 +47,7 @@ fn refuse(e: Error, at: Cursor) -> Raw
 // So many bytes further on tape and log.
 fn further(at: Cursor, tape: usize, log: usize) -> Cursor
     requires { ⌜ (at .tape + tape < 2 ^ 64) × (at .log + log < 2 ^ 64) ⌝ }
-    ensures { λ r. ⌜ r ≡ onward at tape log ⌝ }
+    ensures { λ r. ⌜ r ≡ further at tape log ⌝ }
 {
     Cursor {
         tape: at.tape + tape,

@@ -9,7 +9,7 @@ ghost use lib.ListN.{length};
 ghost use Rattle.frames.specs.Frames.{writeFrame};
 ghost use Rattle.bus.specs.Lent.{does};
 ghost use Rattle.bus.specs.Raw.{asRaw, gives, readRaw, askBack, writeRaw};
-ghost use Rattle.raw.specs.Replies.{taken, onward};
+ghost use Rattle.raw.specs.Inside.{taken, further};
 ghost use Rattle.raw.specs.declared.transfer.Reply.the-variants.{Made};
 use crate::further;
 use crate::long;
@@ -61,7 +61,7 @@ pub fn read_one(
 fn frame_one(address: u8, frame: [u8; 2], data: &mut [u8; 1], at: Cursor) -> Raw
     requires { ⌜ (length (now «data») ≡ 1) × (at .tape + 5 < 2 ^ 64) × (at .log + 7 < 2 ^ 64) ⌝ }
     ensures { λ r. ⌜ (gives (asRaw (r .answer)) (now («data» .exit)) ≡ taken address (now («data» .entry)) frame (Made false 2))
-        × (r .at ≡ onward at 5 7) ⌝ }
+        × (r .at ≡ further at 5 7) ⌝ }
 {
     let next = further(at, 5, 7);
     if frame[1] != check_byte2(address << 1 | 1, frame[0]) {
@@ -111,7 +111,7 @@ pub fn read_two(
 fn frame_two(address: u8, frame: [u8; 4], data: &mut [u8; 2], at: Cursor) -> Raw
     requires { ⌜ (length (now «data») ≡ 2) × (at .tape + 7 < 2 ^ 64) × (at .log + 7 < 2 ^ 64) ⌝ }
     ensures { λ r. ⌜ (gives (asRaw (r .answer)) (now («data» .exit)) ≡ taken address (now («data» .entry)) frame (Made false 4))
-        × (r .at ≡ onward at 7 7) ⌝ }
+        × (r .at ≡ further at 7 7) ⌝ }
 {
     let next = further(at, 7, 7);
     let first = frame[1] == check_byte2(address << 1 | 1, frame[0]);

@@ -5,10 +5,10 @@ ghost use mathlib.Core.List.{_∷_};
 ghost use lib.Dec.{leb};
 ghost use lib.ListN.{length, drop};
 ghost use Rattle.frames.specs.Put.{put};
-ghost use Rattle.bus.specs.Fields.{field};
+ghost use Rattle.fields.specs.Fields.{field};
 ghost use Rattle.bus.specs.Transfers.{read, write, logField, says, answered};
 ghost use Rattle.bus.specs.Lent.{lentBus};
-ghost use Rattle.raw.specs.Replies.{judged, Heard, ReadBy, WrittenBy};
+ghost use Rattle.raw.specs.Inside.{judged, Heard, ReadBy, WrittenBy};
 use bus::Cursor;
 use refusals::Error;
 

@@ -5,7 +5,7 @@ ghost use lib.ListN.{length, drop};
 ghost use mathlib.Core.Bool.{true, false};
 ghost use Rattle.bus.specs.Transfers.{read, write, busOf, says, outcome};
 ghost use Rattle.bus.specs.Lent.{lentBus};
-ghost use Rattle.raw.specs.Replies.{Heard, ReadWhole, GotBy, SentBy, EchoedBy};
+ghost use Rattle.raw.specs.Inside.{Heard, ReadWhole, GotBy, SentBy, EchoedBy};
 ghost use Rattle.raw.specs.declared.transfer.Reply.the-variants.{Made};
 use crate::further;
 use crate::transfer;

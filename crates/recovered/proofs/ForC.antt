@@ -12,18 +12,20 @@ use Rattle.frames.specs.Put.{put}
 use Rattle.frames.proofs.Put.{take-put}
 use Rattle.numbers.specs.Numbers.{word8, four, eight}
 use Rattle.numbers.proofs.Bytes.{word4-four, word8-eight}
-use Rattle.plan.specs.Order as order
+use Rattle.plan.specs.Order.{_andThen_}
 use Rattle.plan.specs.Steps.{stepsFor}
 use Rattle.plan.specs.Plan.{Values}
 use Rattle.plan.specs.InNumbers.{initNumbers}
 use Rattle.plan.specs.declared.answer.InitNumbers.{InitNumbers}
-use Rattle.job.specs.Jobs.{isJob, deviceOf, configOf, jobOf}
+use Rattle.job.specs.Jobs.{deviceOf, configOf}
+use Rattle.job.specs.Inside.{saysJob}
+use Rattle.job.proofs.ByTests.{job-by-tests}
 use Rattle.bus.specs.Transfers.{Transfer, Bus, start, busOf, moved}
 use Rattle.bus.specs.Programs.{Prog, ret, onTape, bind, proceed, _>>=_}
 use Rattle.bus.specs.Raw.{Done}
 use Rattle.bus.specs.Decoders.{transfersIn}
 use Rattle.bus.specs.declared.Cursor.{Cursor}
-use Rattle.bq769x0.specs.Record.{Left, leaving, deviceFor, fresh, newFor, isSound}
+use Rattle.bq769x0.specs.Record.{Left, leaving, deviceAllowed, fresh, newFor, isSound}
 use Rattle.bq769x0.specs.declared.BQ769x0.{BQ769x0}
 use Rattle.bq769x0.proofs.Keeps.{new-sound}
 use Rattle.procedure.specs.Init.{initBy}
@@ -44,7 +46,7 @@ use Rattle.recovery.proofs.SameLog.{in-step}
 use Rattle.job_setup.specs.JobInit.{noDevice, jobInit}
 use Rattle.firmware.specs.Handed.{Handed, handed, layout, asC}
 use Rattle.layout.specs.Layout.{laid}
-use Rattle.recovered.specs.ForC.{Call, Made, logUsed, readBack, leftBy, Calls, none-yet, one-more, recordFor, broughtBy, newOf, linkOf, Alike, Recovers, Survives, Demand3}
+use Rattle.recovered.specs.ForC.{Call, Made, logUsed, logged, leftBy, Calls, none-yet, one-more, recordFor, broughtBy, newOf, linkOf, Alike, Recovers, Survives, Demand3}
 
 -- ---- a job's program: nothing, or the `init` of a new record
 abbrev recordOf : List ℕ → BQ769x0
@@ -56,16 +58,16 @@ data Program (job : List ℕ) : Type 0 where
       → jobInit job ≡ initBy stepsFor (recordOf job) (configOf job) → Program job
 
 program : (job : List ℕ) → Program job
-unfolding jobInit recordFor jobOf newFor order._>>=_ _>>=_ bind proceed
-program job = by (isJob job) refl (deviceFor (deviceOf job .x) (deviceOf job .address) (deviceOf job .cells)) refl
+unfolding jobInit recordFor newFor _andThen_ _>>=_ bind proceed
+program job = by (saysJob job) refl (deviceAllowed (deviceOf job .x) (deviceOf job .address) (deviceOf job .cells)) refl
   where
-    by : (t : Bool) → isJob job ≡ t → (y : Answer Done)
-        → deviceFor (deviceOf job .x) (deviceOf job .address) (deviceOf job .cells) ≡ y → Program job
-    by false e y f = refuses (no 15 []) (rw e) (rw e)
-    by true e (refused r) f = refuses r (rw (e, f)) (rw (e, f))
+    by : (t : Bool) → saysJob job ≡ t → (y : Answer Done)
+        → deviceAllowed (deviceOf job .x) (deviceOf job .address) (deviceOf job .cells) ≡ y → Program job
+    by false e y f = refuses (no 15 []) (rw (job-by-tests job, e)) (rw (job-by-tests job, e))
+    by true e (refused r) f = refuses r (rw (job-by-tests job, e, f)) (rw (job-by-tests job, e, f))
     by true e (value done) f =
         sets-up (new-sound (deviceOf job .x) (deviceOf job .address) (deviceOf job .cells) (deviceOf job .check) (rw f) refl)
-        (rw (e, f)) (rw (e, f))
+        (rw (job-by-tests job, e, f)) (rw (job-by-tests job, e, f))
 
 fine : (job : List ℕ) → Program job → Fine LeftOff 52 (jobInit job)
 fine job (refuses r q e) = subst (Fine LeftOff 52) (sym e) (fine-ret LeftOff 52 _)
@@ -113,7 +115,7 @@ module _ {job : List ℕ} {w : Wired} {call : Call} (made : Made job w call) whe
   unfolding moved
   log-is = ap (λ (h : Handed). h .log) handed-is
 
-  read-back : readBack call ≡ some (transfersOf p w)
+  read-back : logged call ≡ some (transfersOf p w)
   unfolding moved
   read-back =
       let l = logOf onWire p w in

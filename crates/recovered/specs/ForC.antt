@@ -8,7 +8,7 @@ use Prim.Native.Nat.{ℕ, _≤_, max}
 use lib.ListN.{length, take}
 use Rattle.refusals.specs.Refusal.{Answer, value, refused}
 use Rattle.numbers.specs.Numbers.{word8}
-use Rattle.plan.specs.Order.{_>>=_}
+use Rattle.plan.specs.Order.{_andThen_}
 use Rattle.plan.specs.Steps.{stepsFor}
 use Rattle.job.specs.Jobs.{numberAt, deviceOf, configOf, jobOf}
 use Rattle.bus.specs.Transfers.{Transfer, start, busOf}
@@ -48,13 +48,13 @@ pub record Made (job : List ℕ) (w : Wired) (call : Call) : Type 0 where
 abbrev pub logUsed : List ℕ → ℕ
 logUsed out = word8 (numberAt out 8) (numberAt out 12)
 
-abbrev pub readBack : Call → Option (List Transfer)
-readBack call =
+abbrev pub logged : Call → Option (List Transfer)
+logged call =
     let bytes = take (logUsed (call .out)) (call .log′) in
     transfersIn (length bytes) bytes
 
 abbrev pub leftBy : Wired → Call → Chip
-leftBy w call = leftOn w (transfers (readBack call))
+leftBy w call = leftOn w (transfers (logged call))
 
 -- ---- one call after another
 
@@ -66,7 +66,7 @@ pub data Calls (job : List ℕ) (c : Chip) : Chip → Type 0 where
 
 -- the new record of the device that the job names, and how many of the six an `init` of it brings
 unfoldable pub recordFor : List ℕ → Answer BQ769x0
-recordFor job = jobOf job >>= λ wanted. deviceMade (wanted .device)
+recordFor job = jobOf job andThen λ wanted. deviceMade (wanted .device)
 
 abbrev pub broughtBy : Answer BQ769x0 → (ℕ → Option ℕ) → List ℕ → ℕ
 broughtBy (value d) cuts six = brought d cuts six

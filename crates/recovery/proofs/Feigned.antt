@@ -9,7 +9,7 @@ use lib.ListN.{length, take, drop, replicate, length-append, length-take, length
 use Rattle.refusals.specs.Refusal.{Answer, value}
 use Rattle.plan.specs.Steps.{InMv}
 use Rattle.plan.specs.declared.Config.{Config}
-use Rattle.bus.specs.Fields.{field}
+use Rattle.fields.specs.Fields.{field}
 use Rattle.bus.specs.Transfers.{logField}
 use Rattle.bus.specs.Programs.{Prog, bind, proceed, _>>=_}
 use Rattle.bus.specs.Raw.{Read, sound, readRaw, readBytes}

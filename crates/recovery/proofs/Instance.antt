@@ -17,18 +17,18 @@ use Rattle.protection.specs.declared.range.OCDSCDRange.the-variants as R
 use Rattle.check_byte.specs.CheckByte.{checkByte, divide, line, coefficient, divisor, number}
 use Rattle.frames.specs.Frames.{readByte, writeByte, checked, right, dataOf, writeFrame, readFrame, framed}
 use Rattle.frames.specs.Put.{put}
-use Rattle.plan.specs.Order as order
+use Rattle.plan.specs.Order.{_andThen_}
 use Rattle.plan.specs.Plan.{setFor, planFor}
 use Rattle.plan.specs.Registers.{protectFor}
 use Rattle.plan.specs.Steps.{shuntFor, stepsFor}
 use Rattle.plan.specs.Trips.{tripCodeFor, obtainableOr, withinFor}
 use Rattle.plan.specs.declared.InitAnswer.the-variants as I
-use Rattle.bus.specs.Fields.{field, unfield}
+use Rattle.fields.specs.Fields.{field, unfield}
 use Rattle.bus.specs.Transfers.{logField, tapeField, wanted, untape, says, start, moved, after, answered, outcome}
 use Rattle.bus.specs.Programs.{onTape, bind, proceed, _>>=_}
 use Rattle.bus.specs.Raw.{plainly, received, whereRight, checkedly, plainRead, askFrame, checkedRead, readRaw, readBytes}
 use Rattle.bus.specs.Raw.{wrote, askWrite, send, compared, verified, askBack, writeRaw}
-use Rattle.bq769x0.specs.Record.{deviceFor, fresh, isSound, withCalibration, withShunt}
+use Rattle.bq769x0.specs.Record.{deviceAllowed, fresh, isSound, withCalibration, withShunt}
 use Rattle.bq769x0.specs.Registers.{soundly}
 use Rattle.bq769x0.specs.declared.BQ769x0.{BQ769x0}
 use Rattle.procedure.specs.Calibrate.{calibrate}
@@ -131,8 +131,8 @@ pub instances : (check : Bool)
 unfolding
     tapeOf onWire respondCut answers carried acknowledged written storedOf accepted agreed complete begun stores arrives shows held zeros
     readFrame readByte writeByte checked right dataOf checkByte divide line coefficient divisor number
-    deviceFor isSound soundly calibrate onwardBy onward startCounter protect initBy
-    order._>>=_ setFor planFor protectFor shuntFor stepsFor tripCodeFor obtainableOr withinFor
+    deviceAllowed isSound soundly calibrate onwardBy onward startCounter protect initBy
+    _andThen_ setFor planFor protectFor shuntFor stepsFor tripCodeFor obtainableOr withinFor
     step mvAcross rangeFor codeFor
     onTape bind _>>=_ proceed readBytes readRaw plainRead plainly checkedRead askFrame checkedly received whereRight
     wrote askWrite send compared verified askBack writeRaw writeFrame framed
@@ -149,7 +149,7 @@ instances true = (
 )
 
 pub instance-sound : (check : Bool) → isSound (device check) ≡ true
-unfolding isSound deviceFor
+unfolding isSound deviceAllowed
 instance-sound false = refl
 instance-sound true = refl
 
@@ -163,15 +163,15 @@ some-new check = cond check 1 3
 
 pub instance-new : (check : Bool) → newOf (one-more (none-yet (instance-matches check)) cuts (call check) (instances check .0)) ≡ some-new check
 unfolding
-    newOf complete zeros planOn deviceFor isSound
-    order._>>=_ setFor planFor protectFor shuntFor stepsFor tripCodeFor obtainableOr withinFor
+    newOf complete zeros planOn deviceAllowed isSound
+    _andThen_ setFor planFor protectFor shuntFor stepsFor tripCodeFor obtainableOr withinFor
     step mvAcross rangeFor codeFor
 instance-new false = refl
 instance-new true = refl
 
 six-new : (check : Bool) → chipLeft stepsFor config (chip.fresh 8 check) false (some-new check) ≡ left check
 unfolding
-    planOn zeros order._>>=_ setFor planFor protectFor shuntFor stepsFor tripCodeFor obtainableOr withinFor
+    planOn zeros _andThen_ setFor planFor protectFor shuntFor stepsFor tripCodeFor obtainableOr withinFor
     step mvAcross rangeFor codeFor
 six-new false = refl
 six-new true = refl

@@ -12,7 +12,7 @@ use Rattle.adc.specs.Registers.{calibration}
 use Rattle.adc.specs.declared.transfer.AdcTransferFunction.{AdcTransferFunction}
 use Rattle.frames.specs.Put.{put}
 use Rattle.frames.proofs.Put.{put-none}
-use Rattle.plan.specs.Order.{_>>=_}
+use Rattle.plan.specs.Order.{_andThen_}
 use Rattle.plan.specs.Steps.{InMv}
 use Rattle.plan.specs.Plan.{Planned, planFor}
 use Rattle.plan.specs.declared.Config.{Config}
@@ -37,11 +37,11 @@ module _ (choose : Config → Answer InMv) (config : Config) (c : Chip) where
   pub planned : (steps : InMv) → choose config ≡ value steps → (y : Answer Planned)
       → planFor (calibrationOf c .gain) (calibrationOf c .offset) config (steps .scd) (steps .ocd) ≡ y
       → planOn choose config c ≡ y
-  unfolding planOn _>>=_
+  unfolding planOn _andThen_
   planned steps e y q = rw e q
 
   pub unplanned : (r : Refusal) → choose config ≡ refused r → planOn choose config c ≡ refused r
-  unfolding planOn _>>=_
+  unfolding planOn _andThen_
   unplanned r e = rw e
 
   -- six bytes, or none
@@ -153,7 +153,7 @@ module _ {choose : Config → Answer InMv} {config : Config} {d : BQ769x0} {c : 
             λ i. calibration (a i) (b i) (e i)
 
         abbrev planBy : Config → AdcTransferFunction → Answer Planned
-        planBy other adc = choose other >>= λ steps. planFor (adc .gain) (adc .offset) other (steps .scd) (steps .ocd)
+        planBy other adc = choose other andThen λ steps. planFor (adc .gain) (adc .offset) other (steps .scd) (steps .ocd)
 
         pub same-plan : (other : Config) → planOn choose other c′ ≡ planOn choose other c
         unfolding planOn

@@ -11,7 +11,7 @@ use Rattle.refusals.specs.Refusal.{Answer, value, refused}
 use Rattle.adc.specs.Registers.{calibration}
 use Rattle.adc.specs.declared.transfer.AdcTransferFunction.{AdcTransferFunction}
 use Rattle.frames.specs.Put.{put}
-use Rattle.plan.specs.Order.{_>>=_}
+use Rattle.plan.specs.Order.{_andThen_}
 use Rattle.plan.specs.Steps.{InMv}
 use Rattle.plan.specs.Plan.{Planned, planFor}
 use Rattle.plan.specs.declared.Config.{Config}
@@ -28,7 +28,7 @@ calibrationOf c = calibration (getD (c .regs) 0x50 0) (getD (c .regs) 0x51 0) (g
 -- the plan for a configuration on a chip, the steps chosen in some way
 unfoldable pub planOn : (Config → Answer InMv) → Config → Chip → Answer Planned
 planOn choose config c =
-    choose config >>= λ steps.
+    choose config andThen λ steps.
     planFor (calibrationOf c .gain) (calibrationOf c .offset) config (steps .scd) (steps .ocd)
 
 -- its six bytes

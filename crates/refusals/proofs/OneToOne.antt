@@ -3,7 +3,8 @@
 use mathlib.Core.Path.{_≡_, refl}
 use Rattle.laws.proofs.Inverse.{one-to-one}
 use Rattle.laws.proofs.Variants.{by-variants}
-use Rattle.refusals.specs.Refusal.{Refusal, Answer, value, refused, asRefusal, inNumbers, caseOf}
+use Rattle.refusals.specs.Refusal.{Refusal, Answer, value, refused, asRefusal, inNumbers}
+use Rattle.refusals.specs.Inside.{caseOf}
 use Rattle.refusals.specs.declared.Error.{Error}
 use Rattle.refusals.proofs.Error as declared
 

@@ -1,12 +1,11 @@
 -- The numbers that a call can refuse with, and the figures named with them: the table, one line a refusal.
 -- Assumes nothing.
-use Prim.Native.Nat.{ℕ, _-_}
+use Prim.Native.Nat.{ℕ}
 use mathlib.Core.Bool.{Bool, true, false}
 use mathlib.Core.List.{List, [], _∷_}
 use lib.ListN.{length, getD}
 use lib.IntN.{ℤ, pos}
 use Rattle.numbers.specs.Numbers.{asU32}
-use Rattle.units.specs.declared.MilliVolts.{MilliVolts}
 use Rattle.refusals.specs.declared.Error.{Error}
 use Rattle.refusals.specs.declared.Error.the-variants as E
 use Rattle.refusals.specs.declared.InNumbers.{InNumbers}
@@ -78,34 +77,3 @@ inNumbers r = record {
   2 = asU32 (getD (r .figures) 0 (pos 0));
   3 = asU32 (getD (r .figures) 1 (pos 0));
 }
-
--- the table read from the number's side: the case with a number and figures
-abbrev pub cases : ℕ → ℕ → List Error
-cases first second =
-    let low : MilliVolts = record { 0 = first } in
-    let high : MilliVolts = record { 0 = second } in
-    E.CRCMismatch ∷
-    E.I2CError ∷
-    E.BufTooLarge ∷
-    E.Uninitialized ∷
-    E.VerifyError first ∷
-    E.OCDSCDRangeMismatch ∷
-    E.UVThresholdUnobtainable low high ∷
-    E.OVThresholdUnobtainable low high ∷
-    E.BadDevice ∷
-    E.BadCellCount ∷
-    E.BadAddress ∷
-    E.BadShunt ∷
-    E.CurrentTooLarge ∷
-    E.RegisterRunsOut ∷
-    E.BadTape ∷
-    E.TapeEnded ∷
-    E.LogFull ∷
-    E.UnknownFlags ∷
-    E.NoRoom ∷
-    E.UnknownRange ∷
-    E.NoSuchInput ∷
-    []
-
-abbrev pub caseOf : InNumbers → Error
-caseOf t = getD (cases (t .2) (t .3)) (t .0 - 1) E.CRCMismatch

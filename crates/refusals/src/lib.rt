@@ -1,6 +1,7 @@
 // What a call refuses with: the crate's errors, then those that are added here.
 ghost use mathlib.Core.Path.{_≡_};
-ghost use Rattle.refusals.specs.Refusal.{asRefusal, inNumbers, caseOf};
+ghost use Rattle.refusals.specs.Refusal.{asRefusal, inNumbers};
+ghost use Rattle.refusals.specs.Inside.{caseOf};
 use units::MilliVolts;
 
 pub enum Error {

@@ -5,7 +5,7 @@ use mathlib.Core.Path.{_≡_, refl, sym, ap, _∙_}
 use Prim.Native.Nat.{ℕ}
 use mathlib.Core.List.{List}
 use Rattle.refusals.specs.Refusal.{Refusal, Answer, value, refused}
-use Rattle.plan.specs.Plan.{Values, Planned, Outcome, outcome, asInit, asPlan}
+use Rattle.plan.specs.Plan.{Values, Planned, WithBytes, withBytes, asInit, asPlan}
 use Rattle.plan.specs.declared.Plan.{Plan}
 use Rattle.bus.specs.Transfers.{Bus}
 use Rattle.bus.specs.declared.link.Link.{Link}
@@ -24,16 +24,16 @@ planBy : Answer Values → List ℕ → Answer Planned
 planBy (value v) bytes = value (record { values = v; regs = bytes })
 planBy (refused r) bytes = refused r
 
-back : (y : Answer Planned) → planBy (outcome y .answer) (outcome y .regs) ≡ y
+back : (y : Answer Planned) → planBy (withBytes y .answer) (withBytes y .regs) ≡ y
 unfolding planBy
 back (value planned) = refl
 back (refused r) = refl
 
-module _ (p : Plan) (y : Answer Planned) (e : asPlan p ≡ outcome y) where
+module _ (p : Plan) (y : Answer Planned) (e : asPlan p ≡ withBytes y) where
   plan-is : {z : Answer Values} → asInit (p .answer) ≡ z → y ≡ planBy z (p .regs)
   plan-is t =
       sym (back y)
-      ∙ ap (λ (o : Outcome). planBy (o .answer) (o .regs)) (sym e)
+      ∙ ap (λ (o : WithBytes). planBy (o .answer) (o .regs)) (sym e)
       ∙ ap (λ (a : Answer Values). planBy a (p .regs)) t
 
   pub plan-on : (v : Values) → asInit (p .answer) ≡ value v → y ≡ value (record { values = v; regs = p .regs })

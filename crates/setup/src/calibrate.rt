@@ -6,7 +6,7 @@ ghost use Rattle.bus.specs.Raw.{asRaw};
 ghost use Rattle.bq769x0.specs.Record.{leaves};
 ghost use Rattle.bq769x0.specs.declared.BQ769x0.{BQ769x0};
 ghost use Rattle.procedure.specs.Calibrate.{calibrate, readAdcCharacteristics};
-ghost use Rattle.setup.specs.Stages.{calibratedBy};
+ghost use Rattle.setup.specs.Inside.{calibratedBy};
 use crate::left::Calibrated;
 use adc::transfer::AdcTransferFunction;
 use bq769x0::BQ769x0;

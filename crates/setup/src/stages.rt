@@ -8,7 +8,7 @@ ghost use Rattle.bus.specs.Lent.{lentBus, does};
 ghost use Rattle.bq769x0.specs.Record.{leaves};
 ghost use Rattle.bq769x0.specs.declared.BQ769x0.{BQ769x0};
 ghost use Rattle.procedure.specs.Init.{startCounter, protect};
-ghost use Rattle.setup.specs.Stages.{protectedBy};
+ghost use Rattle.setup.specs.Inside.{protectedBy};
 use crate::left::Stage;
 use adc::transfer::AdcTransferFunction;
 use bq769x0::BQ769x0;

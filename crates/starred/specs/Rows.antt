@@ -14,7 +14,7 @@ use Rattle.adc.specs.Registers.{gainOf}
 use Rattle.adc.specs.Conversion.{millivolts, milliamperes}
 use Rattle.moves.specs.Moves.{inputsOf}
 use Rattle.check_byte.specs.CheckByte.{checkByte}
-use Rattle.plan.specs.Order.{_>>=_}
+use Rattle.plan.specs.Order.{_andThen_}
 use Rattle.plan.specs.Steps.{stepsFor}
 use Rattle.plan.specs.Plan.{Values, planFor}
 use Rattle.plan.specs.Fields.{Fields, readBack}
@@ -43,8 +43,8 @@ config scd ocd uv ov = record {
 -- of what a configuration is set up with at gain 365 and offset 0: fields of the six bytes written, and values reported
 abbrev setUp : (Fields → Values → List ℤ) → Config → Answer (List ℤ)
 setUp shown c =
-    stepsFor c >>= λ steps.
-    planFor 365 (pos 0) c (steps .scd) (steps .ocd) >>= λ plan.
+    stepsFor c andThen λ steps.
+    planFor 365 (pos 0) c (steps .scd) (steps .ocd) andThen λ plan.
     value (shown (readBack (plan .regs)) (plan .values))
 
 abbrev uv : ℕ → Answer (List ℤ)
@@ -61,7 +61,7 @@ both scd ocd =
     (config scd ocd 2800 4200)
 
 abbrev scdStep : ℕ → Answer (List ℤ)
-scdStep scd = stepsFor (config scd 20 2800 4200) >>= λ steps. is (pos (steps .scd))
+scdStep scd = stepsFor (config scd 20 2800 4200) andThen λ steps. is (pos (steps .scd))
 
 abbrev pub starred : List Row
 starred =
@@ -77,7 +77,7 @@ starred =
     (scdStep 255, is (pos 200)) ∷
     (both 100 55, refused (no 6 [])) ∷
     (both 44 44, value (pos 0 ∷ pos 0x2 ∷ pos 0xD ∷ [])) ∷
-    (milliamperes (asI16 (word 0xFF 0xFF)) 1000 >>= is, is (negℤ (pos 8))) ∷
+    (milliamperes (asI16 (word 0xFF 0xFF)) 1000 andThen is, is (negℤ (pos 8))) ∷
     (value (map pos (inputsOf 10 10)), value (map pos (1 ∷ 2 ∷ 3 ∷ 5 ∷ 5 ∷ 6 ∷ 7 ∷ 10 ∷ 9 ∷ 10 ∷ []))) ∷
     (is (pos (checkByte (0x01 ∷ []))), is (pos 0x07)) ∷
     []

@@ -3,20 +3,20 @@
 use mathlib.Core.Path.{_≡_, refl, ap}
 use Rattle.laws.proofs.Inverse.{one-to-one}
 use Rattle.refusals.proofs.OneToOne.{answerBack, undone}
-use Rattle.wiring.specs.Questions.{asCell, asKnown, Listed, asInputs}
+use Rattle.wiring.specs.Questions.{asCellAnswer, asKnown, Listed, asInputs}
 use Rattle.wiring.specs.declared.questions.CellAnswer.{CellAnswer}
 use Rattle.wiring.specs.declared.questions.CellAnswer.the-variants as C
 use Rattle.wiring.specs.declared.questions.InputsAnswer.{InputsAnswer}
 use Rattle.wiring.specs.declared.questions.InputsAnswer.the-variants as I
 use Rattle.wiring.specs.declared.questions.Fitted.{Fitted}
 
-cell-undone : (a : CellAnswer) → answerBack C.Cell C.Refused (asCell a) ≡ a
+cell-undone : (a : CellAnswer) → answerBack C.Cell C.Refused (asCellAnswer a) ≡ a
 cell-undone (C.Cell cell) = refl
 cell-undone (C.Refused e) = ap C.Refused (undone e)
 
 -- `cell_on`
-pub cell-agree : (a b : CellAnswer) → asCell a ≡ asCell b → a ≡ b
-cell-agree = one-to-one asCell (answerBack C.Cell C.Refused) cell-undone
+pub cell-agree : (a b : CellAnswer) → asCellAnswer a ≡ asCellAnswer b → a ≡ b
+cell-agree = one-to-one asCellAnswer (answerBack C.Cell C.Refused) cell-undone
 
 known-undone : (a : InputsAnswer) → answerBack (λ done. I.Listed) I.Refused (asKnown a) ≡ a
 known-undone I.Listed = refl

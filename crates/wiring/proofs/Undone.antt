@@ -15,7 +15,7 @@ use Rattle.refusals.specs.declared.Error.the-variants as E
 use Rattle.sizes.specs.Sizes.{isSize, isCount}
 use Rattle.wiring.specs.Packs.{ofPack}
 use Rattle.wiring.specs.Tables.{fitted}
-use Rattle.wiring.specs.Questions.{inputsFor, cellFrom, cellOn, asCell, Listed, asInputs, listed}
+use Rattle.wiring.specs.Questions.{inputsFor, cellFrom, cellOn, asCellAnswer, Listed, asInputs, listed}
 use Rattle.wiring.specs.declared.questions.CellAnswer.{CellAnswer}
 use Rattle.wiring.specs.declared.questions.CellAnswer.the-variants as C
 use Rattle.wiring.specs.declared.questions.Fitted.{Fitted}
@@ -151,15 +151,15 @@ module _ (x n : ℕ) (pack : T (isCount x n)) (r : Fitted) (listing : asInputs r
   pub listed-unshorted : (k : ℕ) → k < n → shorted x n (getD (r .inputs) k 0) ≡ false
   listed-unshorted k h = ap (shorted x n) (listed-at k h) ∙ every-pack x n pack .unshorted k h
 
-  pub cell-of-listed : (k : ℕ) → k < n → (a : CellAnswer) → asCell a ≡ cellOn x n (getD (r .inputs) k 0) → a ≡ C.Cell (suc k)
+  pub cell-of-listed : (k : ℕ) → k < n → (a : CellAnswer) → asCellAnswer a ≡ cellOn x n (getD (r .inputs) k 0) → a ≡ C.Cell (suc k)
   cell-of-listed k h a e = cell-agree a (C.Cell (suc k)) (e ∙ ap (cellOn x n) (listed-at k h) ∙ every-pack x n pack .there k h)
 
-  pub listed-of-cell : (input cell : ℕ) → asCell (C.Cell cell) ≡ cellOn x n input → getD (r .inputs) (cell - 1) 0 ≡ input
+  pub listed-of-cell : (input cell : ℕ) → asCellAnswer (C.Cell cell) ≡ cellOn x n input → getD (r .inputs) (cell - 1) 0 ≡ input
   listed-of-cell input cell e =
       let at = every-pack x n pack .back input cell (sym e) in
       listed-at (cell - 1) (omega arith) ∙ at .2
 
-module _ (x n : ℕ) (pack : T (isCount x n)) (input : ℕ) (a : CellAnswer) (answered : asCell a ≡ cellOn x n input) where
+module _ (x n : ℕ) (pack : T (isCount x n)) (input : ℕ) (a : CellAnswer) (answered : asCellAnswer a ≡ cellOn x n input) where
   pub bare-refused : bare x n input ≡ true → a ≡ C.Refused E.NoSuchInput
   bare-refused e = cell-agree a (C.Refused E.NoSuchInput) (answered ∙ every-pack x n pack .bare-21 input e)
 

@@ -28,9 +28,9 @@ unfoldable pub cellOn : ℕ → ℕ → ℕ → Answer ℕ
 cellOn x n input = ofPack x n (cellFrom 1 (fitted x n) input)
 
 -- ---- as the code answers
-abbrev pub asCell : CellAnswer → Answer ℕ
-asCell (C.Cell cell) = value cell
-asCell (C.Refused e) = refused (asRefusal e)
+abbrev pub asCellAnswer : CellAnswer → Answer ℕ
+asCellAnswer (C.Cell cell) = value cell
+asCellAnswer (C.Refused e) = refused (asRefusal e)
 
 abbrev pub asKnown : InputsAnswer → Answer (Unit {0})
 asKnown I.Listed = value tt

@@ -3,7 +3,7 @@ ghost use mathlib.Core.Path.{_≡_};
 ghost use Prim.Native.Nat.{_≤_};
 ghost use lib.ListN.{take};
 ghost use Rattle.refusals.specs.Refusal.{refused, asRefusal};
-ghost use Rattle.wiring.specs.Questions.{inputsFor, asInputs, listed, cellFrom, cellOn, asCell};
+ghost use Rattle.wiring.specs.Questions.{inputsFor, asInputs, listed, cellFrom, cellOn, asCellAnswer};
 use crate::tables;
 use refusals::Error;
 
@@ -48,7 +48,7 @@ fn refuse(e: Error) -> Fitted
 }
 
 pub fn cell_on(x: u8, cells: u8, input: u8) -> CellAnswer
-    ensures { λ r. ⌜ asCell r ≡ cellOn x cells input ⌝ }
+    ensures { λ r. ⌜ asCellAnswer r ≡ cellOn x cells input ⌝ }
 {
     if !sizes::is_size(x) {
         return CellAnswer::Refused(Error::BadDevice);
@@ -62,7 +62,7 @@ pub fn cell_on(x: u8, cells: u8, input: u8) -> CellAnswer
 // Where the input stands among the first so many.
 fn place(inputs: [u8; 15], cells: u8, input: u8) -> CellAnswer
     requires { ⌜ cells ≤ 15 ⌝ }
-    ensures { λ r. ⌜ asCell r ≡ cellFrom 1 (take cells inputs) input ⌝ }
+    ensures { λ r. ⌜ asCellAnswer r ≡ cellFrom 1 (take cells inputs) input ⌝ }
 {
     let mut cell = 0;
     while cell < cells {

@@ -9,7 +9,7 @@ use lib.ListN.{length, take, drop}
 use Rattle.calls.specs.Shapes.{lawful}
 use Rattle.calls.specs.Heads.{fieldAt, asField, endFrom}
 use Rattle.calls.specs.declared.Field.{Field}
-use Rattle.calls.proofs.Steps.{unfound, none, past-the-end, starts, inside, found-end, found-call, found-other}
+use Rattle.calls.proofs.Steps.{unfound, none-there, past-the-end, starts, inside, found-end, found-call, found-other}
 use Rattle.refusals.specs.Refusal.{Answer, value, refused, no}
 use borrow.Author.Needs.{needs}
 use borrow.Author.Tests.{not-true, not-false}
@@ -94,7 +94,7 @@ returns : tie.Need-returns Inv-loop μ-loop
 returns c =
     let at = at-loop (c .before .before) .loop in
     let refusal = sym (c .before .before .field-at .ensures) ∙ ap asField (c .enum-told .given .1) in
-    sym (at .inv .2 ∙ none (at .at) _ (at .inv .0) (unfound _ _ _ refusal))
+    sym (at .inv .2 ∙ none-there (at .at) _ (at .inv .0) (unfound _ _ _ refusal))
 
 returns-2 : tie.Need-returns-2 Inv-loop μ-loop
 returns-2 c =

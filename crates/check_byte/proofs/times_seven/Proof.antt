@@ -5,7 +5,7 @@ use Prim.Native.Nat.{ℕ}
 use native.Mathlib.Omega.{arith}
 use lib.Bits.{bitXor}
 use lib.Pow.{shl-exact}
-use Rattle.check_byte.specs.Seven.{timesSeven}
+use Rattle.check_byte.specs.Inside.{timesSeven}
 use Rattle.check_byte.proofs.times_seven.Statement.{statement}
 use Rattle.check_byte.proofs.times_seven.Tie as tie
 

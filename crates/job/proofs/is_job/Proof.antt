@@ -1,12 +1,12 @@
 -- `job::is_job` meets its contract. Assumes nothing.
 use borrow.Author.Tests.{lt-leb, le-leb}
-use Rattle.job.specs.Jobs.{isJob}
+use Rattle.job.specs.Inside.{saysJob}
 use borrow.Author.Needs.{needs}
 use Rattle.job.proofs.is_job.Statement.{statement}
 use Rattle.job.proofs.is_job.Tie as tie
 
 returns : tie.Need-returns
-unfolding isJob
+unfolding saysJob
 returns c = simp (lt-leb _ _ (c .if1 .taken))
 
 is-device-requires : tie.Need-is-device-requires
@@ -19,7 +19,7 @@ has-codes-requires : tie.Need-has-codes-requires
 has-codes-requires c κs = search needs
 
 returns-2 : tie.Need-returns-2
-unfolding isJob
+unfolding saysJob
 returns-2 c =
     rw (
       c .before .before .is-device .ensures,

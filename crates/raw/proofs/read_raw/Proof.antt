@@ -14,7 +14,7 @@ use Rattle.bus.specs.Transfers.{Bus, busOf, read}
 use Rattle.bus.specs.Programs.{ran, onTape}
 use Rattle.bus.specs.Raw.{sound, Read, readRaw}
 use Rattle.bus.proofs.Raws.{zeros, sound-x}
-use Rattle.raw.specs.Replies.{taken, onward, GotBy}
+use Rattle.raw.specs.Inside.{taken, further, GotBy}
 use Rattle.raw.specs.declared.transfer.Reply.the-variants.{Made}
 use Rattle.raw.proofs.Quick.{is-got, buf-kept, log-kept, read-same, among-zeros, taken-front, read-well, frame-well}
 use borrow.Author.Needs.{needs}
@@ -151,10 +151,10 @@ module _ (c : tie.Then5) where
   log-room = got .1 .1
 
   checked : {r : Read} → r ≡ taken (s .args .link .address) (bytes (k (o t))) frame (Made false (length zero))
-      → ran r (now (s .args .tape)) log (onward (s .args .at) (3 + 2 * m) 7)
+      → ran r (now (s .args .tape)) log (further (s .args .at) (3 + 2 * m) 7)
       ≡ onTape (readRaw (s .args .link) (s .args .reg-address) (bytes (k (o t)))) (bus (k (o t)))
   checked {r} e =
-      subst (λ (j : ℕ). ran r (now (s .args .tape)) log (onward (s .args .at) (3 + j) 7)
+      subst (λ (j : ℕ). ran r (now (s .args .tape)) log (further (s .args .at) (3 + j) 7)
       ≡ onTape (readRaw (s .args .link) (s .args .reg-address) (bytes (k (o t)))) (bus (k (o t)))) all
       (frame-well (s .args .link) (s .args .reg-address) (bytes (k (o t))) (bus (k (o t))) (is-sound (o t)) (within (o t))
       r (checks t) (few t) (some t) (zeros (2 * m) 66 (omega (arith, most t))) got e)

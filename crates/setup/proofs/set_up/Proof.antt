@@ -17,7 +17,7 @@ use Rattle.bq769x0.specs.declared.BQ769x0.{BQ769x0}
 use Rattle.bq769x0.specs.declared.Readings.{Readings}
 use Rattle.procedure.specs.Calibrate.{calibrated, calibrate}
 use Rattle.procedure.specs.Init.{startCounter, onward, protect, setUp}
-use Rattle.setup.specs.Stages.{calibratedBy, protectedBy}
+use Rattle.setup.specs.Inside.{calibratedBy, protectedBy}
 use Rattle.setup.proofs.Onward.{stage-on, stage-off}
 use borrow.Author.Needs.{needs}
 use Rattle.setup.proofs.set_up.Statement.{statement}

@@ -10,7 +10,7 @@ use borrow.Author.Tests.{lt-ltb, le-ltb}
 use Rattle.units.specs.declared.MilliVolts.{MilliVolts}
 use Rattle.laws.specs.Over.{_over_}
 use Rattle.moves.specs.Moves.{volts, firstCells}
-use Rattle.procedure.specs.Cells.{handed}
+use Rattle.procedure.specs.Cells.{handedBack}
 use borrow.Author.Needs.{needs}
 use Rattle.cells.proofs.crate_list.cells_of.Statement.{statement}
 use Rattle.cells.proofs.crate_list.cells_of.Tie as tie
@@ -32,7 +32,7 @@ module _ (s : tie.Start) where
       ∙ (sym (length-map held _) ∙ s .good .0 .1 .1 .1 .1 .1 .1 .1 .0 .1 .1 .0 .1 .0 .1)
 
   part : {list′ : List ℕ} → n ≤ length list → n ≤ 15 → list′ ≡ firstCells n held over list
-      → take n list′ ≡ handed n held (length list)
+      → take n list′ ≡ handedBack n held (length list)
   part room few filled =
       let front = length-take-le n (map volts held) (omega (arith, long)) in
       rw (filled, take-at (firstCells n held) (drop (length (firstCells n held)) list) n front)
@@ -46,7 +46,7 @@ module _ (c : tie.After-fill) where
   abbrev start : tie.Start
   start = room .before .before .before
 
-  after-fill : take (n start) (c .fill .last .1 .1 .0) ≡ handed (n start) (held start) (length (list start))
+  after-fill : take (n start) (c .fill .last .1 .1 .0) ≡ handedBack (n start) (held start) (length (list start))
   after-fill = part start (room .if1 .left) (c .before .before .before .if2 .left) (c .fill .ensures)
 
 -- ---- the needs

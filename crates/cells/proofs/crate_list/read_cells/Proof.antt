@@ -22,7 +22,7 @@ use Rattle.moves.proofs.Front.{as-many}
 use Rattle.procedure.specs.Cells.{Filled, filled, taking, untouched, listed, readCells}
 use Rattle.procedure.proofs.Moved.{sound-gain, taken, listed-first}
 use Rattle.procedure.proofs.Reading.{unread, given}
-use Rattle.cells.specs.Taken.{Taken}
+use Rattle.cells.specs.Inside.{Taken}
 use Rattle.cells.proofs.crate_list.read_cells.Statement.{statement}
 use Rattle.cells.proofs.crate_list.read_cells.Tie as tie
 

@@ -8,7 +8,7 @@ use lib.Seq.{take-take}
 use Rattle.numbers.specs.Numbers.{asU32}
 use Rattle.adc.specs.declared.transfer.AdcTransferFunction.{AdcTransferFunction}
 use Rattle.procedure.specs.Inputs.{converted}
-use Rattle.cells.specs.Taken.{Held}
+use Rattle.cells.specs.Inside.{Held}
 use Rattle.cells.proofs.inputs.convert.Statement.{statement}
 use Rattle.cells.proofs.inputs.convert.Tie as tie
 

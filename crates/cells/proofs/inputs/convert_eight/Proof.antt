@@ -14,7 +14,7 @@ use Rattle.adc.specs.Conversion.{millivolts}
 use Rattle.adc.specs.declared.transfer.AdcTransferFunction.{AdcTransferFunction}
 use Rattle.procedure.specs.Inputs.{converted}
 use Rattle.procedure.proofs.Converted.{length-converted, converted-at}
-use Rattle.cells.specs.Taken.{Held}
+use Rattle.cells.specs.Inside.{Held}
 use Rattle.cells.proofs.inputs.convert_eight.Statement.{statement}
 use Rattle.cells.proofs.inputs.convert_eight.Tie as tie
 

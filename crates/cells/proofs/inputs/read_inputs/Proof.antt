@@ -21,7 +21,7 @@ use Rattle.bus.proofs.Heard.{Heard}
 use Rattle.bus.proofs.Raws.{zeros}
 use Rattle.procedure.specs.Inputs.{converted, readInputs}
 use Rattle.procedure.proofs.Converted.{first-converted}
-use Rattle.cells.specs.Taken.{Held, Taken}
+use Rattle.cells.specs.Inside.{Held, Taken}
 use borrow.Author.Needs.{needs}
 use Rattle.cells.proofs.inputs.read_inputs.Statement.{statement}
 use Rattle.cells.proofs.inputs.read_inputs.Tie as tie

@@ -24,7 +24,7 @@ use Rattle.procedure.specs.Wired.{Shown, shown, unshown, showing, readWired}
 use Rattle.procedure.proofs.Fitted.{listed-within, listed-inputs, listed-volts}
 use Rattle.procedure.proofs.Moved.{sound-gain, taken}
 use Rattle.procedure.proofs.Reading.{unread, given}
-use Rattle.cells.specs.Taken.{Taken}
+use Rattle.cells.specs.Inside.{Taken}
 use Rattle.cells.proofs.wired.read_wired.Statement.{statement}
 use Rattle.cells.proofs.wired.read_wired.Tie as tie
 

@@ -8,7 +8,8 @@ use native.Mathlib.Nat.{le-refl}
 use lib.ListN.{take}
 use borrow.Author.Needs.{needs}
 use Rattle.bus.specs.Transfers.{Transfer, Outcome, read}
-use Rattle.chip.specs.Answering.{asCut, saying, tells}
+use Rattle.chip.specs.Answering.{asCut, tells}
+use Rattle.chip.specs.Inside.{saying}
 use Rattle.chip.specs.Chip.{begun, answers, shows, respondCut}
 use Rattle.chip.specs.Devices.{Reached, reached}
 use Rattle.chip.specs.declared.Chip.{Chip}

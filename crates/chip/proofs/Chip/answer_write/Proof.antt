@@ -6,7 +6,8 @@ use mathlib.Core.List.{List, []}
 use Prim.Native.Nat.{ℕ, zero-le}
 use borrow.Author.Needs.{needs}
 use Rattle.bus.specs.Transfers.{Outcome, write}
-use Rattle.chip.specs.Answering.{asCut, saying, tells}
+use Rattle.chip.specs.Answering.{asCut, tells}
+use Rattle.chip.specs.Inside.{saying}
 use Rattle.chip.specs.Chip.{respondCut}
 use Rattle.chip.specs.Devices.{Reached, reached}
 use Rattle.chip.specs.declared.Chip.{Chip}

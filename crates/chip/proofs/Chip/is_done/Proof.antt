@@ -5,7 +5,8 @@ use mathlib.Core.Bool.{Bool, _&&_}
 use mathlib.Core.List.{[]}
 use borrow.Author.Needs.{needs}
 use Rattle.bus.specs.Transfers.{write}
-use Rattle.chip.specs.Answering.{asCut, saying}
+use Rattle.chip.specs.Answering.{asCut}
+use Rattle.chip.specs.Inside.{saying}
 use Rattle.chip.specs.Chip.{respondCut}
 use Rattle.chip.specs.declared.answer.Cut.{Cut}
 use Rattle.chip.proofs.Takes.{cut-faults, whole-goes}

@@ -18,7 +18,8 @@ use Rattle.bus.proofs.Programs.{pure-on, pure-off}
 use Rattle.bq769x0.specs.Record.{isSound}
 use Rattle.bq769x0.specs.declared.BQ769x0.{BQ769x0}
 use Rattle.bq769x0.proofs.Soundly.{sound-on, sound-off}
-use Rattle.measuring.specs.Word.{asWord, readWord}
+use Rattle.measuring.specs.Word.{readWord}
+use Rattle.measuring.specs.Inside.{asWord}
 use Rattle.measuring.specs.Pack.{initialised, current}
 use Rattle.bus.proofs.Heard.{Heard, heard}
 use borrow.Author.Needs.{needs}

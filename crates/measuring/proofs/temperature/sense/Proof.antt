@@ -7,7 +7,8 @@ use Rattle.bus.specs.Transfers.{Bus, busOf}
 use Rattle.bus.specs.Programs.{Ran, onTape}
 use Rattle.bus.proofs.Programs.{went-on, went-off}
 use Rattle.bq769x0.specs.declared.BQ769x0.{BQ769x0}
-use Rattle.measuring.specs.Word.{asWord, readWord}
+use Rattle.measuring.specs.Word.{readWord}
+use Rattle.measuring.specs.Inside.{asWord}
 use Rattle.measuring.specs.Temperature.{Sensed, withSource, sense}
 use borrow.Author.Needs.{needs}
 use Rattle.measuring.proofs.temperature.sense.Statement.{statement}

@@ -9,7 +9,8 @@ use Rattle.bus.specs.Programs.{Ran, onTape}
 use Rattle.bq769x0.specs.Record.{isSound}
 use Rattle.bq769x0.specs.declared.BQ769x0.{BQ769x0}
 use Rattle.bq769x0.proofs.Soundly.{sound-on, sound-off}
-use Rattle.measuring.specs.Temperature.{Sensed, asSensed, sense, degrees, temperature}
+use Rattle.measuring.specs.Temperature.{Sensed, sense, degrees, temperature}
+use Rattle.measuring.specs.Inside.{asSensed}
 use Rattle.measuring.specs.declared.degrees.Temperature.{Temperature}
 use Rattle.bus.proofs.Heard.{Heard, heard}
 use borrow.Author.Needs.{needs}

@@ -9,9 +9,10 @@ use Rattle.protection.specs.Answers.{asCode, asRange}
 use Rattle.protection.specs.Scd as scd
 use Rattle.protection.specs.Ocd as ocd
 use Rattle.protection.specs.declared.range.OCDSCDRange.{OCDSCDRange}
-use Rattle.plan.specs.Order.{_>>=_}
-use Rattle.plan.specs.Plan.{Planned, outcome, setFor, planFor}
-use Rattle.plan.specs.Trips.{tripCodeFor, withinFor, asWithin}
+use Rattle.plan.specs.Order.{_andThen_}
+use Rattle.plan.specs.Plan.{Planned, withBytes, setFor, planFor}
+use Rattle.plan.specs.Trips.{tripCodeFor, withinFor}
+use Rattle.plan.specs.Inside.{asWithin}
 use Rattle.plan.specs.declared.Config.{Config}
 use Rattle.plan.proofs.After.{choice, choice-only}
 use Rattle.plan.proofs.Only.{code-only}
@@ -45,16 +46,16 @@ module _ (s : tie.Start) where
 
   abbrev after-range : ℕ → ℕ → OCDSCDRange → Answer Planned
   after-range ov uv range =
-      withinFor gain offset (config .«ov_threshold» .0) (config .«uv_threshold» .0) >>= λ _. after-limits ov uv range
+      withinFor gain offset (config .«ov_threshold» .0) (config .«uv_threshold» .0) andThen λ _. after-limits ov uv range
 
   abbrev after-uv : ℕ → ℕ → Answer Planned
-  after-uv ov uv = choice scdMv ocdMv >>= after-range ov uv
+  after-uv ov uv = choice scdMv ocdMv andThen after-range ov uv
 
   abbrev after-ov : ℕ → Answer Planned
-  after-ov ov = tripCodeFor gain offset (config .«uv_threshold» .0) >>= after-uv ov
+  after-ov ov = tripCodeFor gain offset (config .«uv_threshold» .0) andThen after-uv ov
 
   abbrev after-shunt : Answer Planned
-  after-shunt = tripCodeFor gain offset (config .«ov_threshold» .0) >>= after-ov
+  after-shunt = tripCodeFor gain offset (config .«ov_threshold» .0) andThen after-ov
 
 -- ---- the places of the calls, each from the next
 abbrev at-ov : tie.After-trip-code2 → tie.After-trip-code
@@ -117,7 +118,7 @@ module _ (c : tie.After-range-to-use) where
   abbrev coded : OCDSCDRange → Answer Planned
   coded = after-range start-range (ov-code (at-uv c)) uv-code
 
-  past-uv : whole start-range ≡ choice (scdMv start-range) (ocdMv start-range) >>= coded
+  past-uv : whole start-range ≡ choice (scdMv start-range) (ocdMv start-range) andThen coded
   past-uv = with-uv (at-uv c) (ap asCode (c .before .before .uv-code .given .1))
 
   no-range : {r : Refusal} → asRange (c .range-to-use .result) ≡ refused r → whole start-range ≡ refused (no 6 [])
@@ -154,7 +155,7 @@ refused-requires c κs = search needs
 returns : tie.Need-returns
 unfolding planFor
 returns c =
-    c .refused .ensures ∙ ap outcome (sym (out _ (bad _ (sym (c .before .before .bad-shunt .ensures) ∙ c .before .if1 .taken))))
+    c .refused .ensures ∙ ap withBytes (sym (out _ (bad _ (sym (c .before .before .bad-shunt .ensures) ∙ c .before .if1 .taken))))
 
 trip-code-requires : tie.Need-trip-code-requires
 trip-code-requires c κs = search needs
@@ -171,7 +172,7 @@ refused-requires-2 c κs = search needs
 returns-2 : tie.Need-returns-2
 returns-2 c =
     c .refused2 .ensures
-    ∙ ap outcome (sym (no-ov (c .before .before .before) (ap asCode (c .before .enum-told .given .1))))
+    ∙ ap withBytes (sym (no-ov (c .before .before .before) (ap asCode (c .before .enum-told .given .1))))
 
 trip-code-requires-2 : tie.Need-trip-code-requires-2
 trip-code-requires-2 c κs = search needs
@@ -188,7 +189,7 @@ refused-requires-3 c κs = search needs
 returns-3 : tie.Need-returns-3
 returns-3 c =
     c .refused3 .ensures
-    ∙ ap outcome (sym (no-uv (c .before .before .before) (ap asCode (c .before .enum-told2 .given .1))))
+    ∙ ap withBytes (sym (no-uv (c .before .before .before) (ap asCode (c .before .enum-told2 .given .1))))
 
 range-to-use-requires : tie.Need-range-to-use-requires
 range-to-use-requires c κs = search needs
@@ -205,7 +206,7 @@ refused-requires-4 c κs = search needs
 returns-4 : tie.Need-returns-4
 returns-4 c =
     c .refused4 .ensures
-    ∙ ap outcome (sym (no-range (c .before .before .before) (ap asRange (c .before .enum-told3 .given .1))))
+    ∙ ap withBytes (sym (no-range (c .before .before .before) (ap asRange (c .before .enum-told3 .given .1))))
 
 within-limits-requires : tie.Need-within-limits-requires
 within-limits-requires c κs = search needs
@@ -225,12 +226,12 @@ refused-requires-5 c κs = search needs
 returns-5 : tie.Need-returns-5
 returns-5 c =
     c .set .ensures
-    ∙ ap outcome (sym (inside (c .before .before .before) (ap asWithin (c .before .enum-told4 .given .1))))
+    ∙ ap withBytes (sym (inside (c .before .before .before) (ap asWithin (c .before .enum-told4 .given .1))))
 
 returns-6 : tie.Need-returns-6
 returns-6 c =
     c .refused5 .ensures
-    ∙ ap outcome (sym (outside (c .before .before .before .before) (ap asWithin (c .before .before .e .given .1))))
+    ∙ ap withBytes (sym (outside (c .before .before .before .before) (ap asWithin (c .before .before .e .given .1))))
 
 pub plan-spec : {M : Type 1} → statement M
 plan-spec =

@@ -6,8 +6,9 @@ use Prim.Native.Nat.{ℕ}
 use lib.IntN.{ℤ}
 use Rattle.refusals.specs.Refusal.{Answer, Refusal, value, refused, no}
 use Rattle.protection.specs.declared.range.OCDSCDRange.{OCDSCDRange}
-use Rattle.plan.specs.Plan.{Values, Planned, valuesFor, outcome, setFor}
-use Rattle.plan.specs.Registers.{protectFor, asProtect}
+use Rattle.plan.specs.Plan.{Values, Planned, valuesFor, withBytes, setFor}
+use Rattle.plan.specs.Registers.{protectFor}
+use Rattle.plan.specs.Inside.{asProtect}
 use Rattle.plan.specs.declared.Config.{Config}
 use Rattle.plan.specs.declared.six_bytes.Protect.{Protect}
 use Rattle.plan.proofs.Only.{protect-only}
@@ -27,7 +28,7 @@ module _ (gain : ℕ) (offset : ℤ) (config : Config) (scdMv ocdMv : ℕ) (rang
   set-is : {p : Protect} {v : Values}
       → protectFor config scdMv ocdMv range ≡ value p
       → v ≡ valuesFor gain offset (config .shunt .0) scdMv ocdMv range ov uv
-      → record { answer = value v; regs = p .0 ∷ p .1 ∷ p .2 ∷ ov ∷ uv ∷ 0x19 ∷ [] } ≡ outcome whole
+      → record { answer = value v; regs = p .0 ∷ p .1 ∷ p .2 ∷ ov ∷ uv ∷ 0x19 ∷ [] } ≡ withBytes whole
   unfolding setFor
   set-is e v-is = rw (past _ _ e, v-is)
 
@@ -46,7 +47,7 @@ refused-requires c κs = search needs
 returns : tie.Need-returns
 returns c =
     let e = sym (c .before .before .before .protect-bytes .ensures) ∙ ap asProtect (c .before .enum-told .given .1) in
-    c .refused .ensures ∙ ap outcome (sym (no-bytes _ _ _ _ _ _ _ _ e))
+    c .refused .ensures ∙ ap withBytes (sym (no-bytes _ _ _ _ _ _ _ _ e))
 
 values-requires : tie.Need-values-requires
 values-requires c κs = search needs

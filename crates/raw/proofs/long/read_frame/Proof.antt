@@ -10,7 +10,7 @@ use Rattle.bus.proofs.Raws.{zeros}
 use Rattle.refusals.specs.Refusal.{Answer}
 use Rattle.bus.specs.Transfers.{Bus, busOf, read}
 use Rattle.bus.specs.Raw.{Done, gives}
-use Rattle.raw.specs.Replies.{taken, ReadBy}
+use Rattle.raw.specs.Inside.{taken, ReadBy}
 use Rattle.raw.proofs.Asked.{frame-read}
 use Rattle.raw.proofs.Quick.{among-zeros, taken-front, taken-stopped, into-zeros}
 use borrow.Author.Needs.{needs}

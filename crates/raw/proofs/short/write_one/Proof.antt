@@ -9,7 +9,7 @@ use lib.ListN.{length, getD, replicate}
 use denote.Ref.{now}
 use Rattle.bus.specs.Transfers.{read, write, Bus, busOf}
 use Rattle.bus.specs.Raw.{sound}
-use Rattle.raw.specs.Replies.{SentBy, EchoedBy}
+use Rattle.raw.specs.Inside.{SentBy, EchoedBy}
 use Rattle.raw.proofs.Quick.{one, is-sent, not-sent, is-echoed, not-echoed, reads-plain}
 use Rattle.raw.proofs.Writes.{one-checked, plain-frame, write-long, write-checked, write-plain}
 use borrow.Author.Needs.{needs}

@@ -4,7 +4,7 @@ use native.Mathlib.Numerals.{add-one}
 use native.Mathlib.Omega.{arith}
 use denote.Ref.{now}
 use lib.ListN.{length-set}
-use Rattle.bus.specs.Fields.{field}
+use Rattle.fields.specs.Fields.{field}
 use Rattle.raw.proofs.Fields.{put-head}
 use borrow.Author.Needs.{needs}
 use Rattle.raw.proofs.transfer.put_field.Statement.{statement}

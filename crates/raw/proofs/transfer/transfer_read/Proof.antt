@@ -6,9 +6,9 @@ use native.Mathlib.Omega.{arith}
 use lib.ListN.{length, take, drop, length-take}
 use denote.Ref.{now}
 use Rattle.frames.specs.Put.{put}
-use Rattle.bus.specs.Fields.{field}
+use Rattle.fields.specs.Fields.{field}
 use Rattle.bus.specs.Transfers.{Transfer, read, Bus, busOf, logField, wanted, outcome}
-use Rattle.raw.specs.Replies.{Heard}
+use Rattle.raw.specs.Inside.{Heard}
 use Rattle.raw.specs.declared.transfer.Reply.the-variants.{Made}
 use Rattle.raw.proofs.Moves.{Replied, room, there, at-most, read-stopped, read-by}
 use borrow.Author.Needs.{needs}

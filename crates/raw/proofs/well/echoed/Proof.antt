@@ -10,9 +10,9 @@ use borrow.Author.Tests.{leb-true}
 use denote.Ref.{now}
 use Rattle.frames.specs.Put.{put}
 use Rattle.frames.proofs.Put.{length-put}
-use Rattle.bus.specs.Fields.{field}
+use Rattle.fields.specs.Fields.{field}
 use Rattle.bus.specs.Transfers.{Transfer, read, write, Bus, busOf, logField, wanted}
-use Rattle.raw.specs.Replies.{onward, SentBy}
+use Rattle.raw.specs.Inside.{further, SentBy}
 use Rattle.raw.specs.declared.transfer.Reply.the-variants.{Made}
 use Rattle.raw.proofs.Moves.{Replied, well, written-by}
 use borrow.Author.Needs.{needs}
@@ -38,7 +38,7 @@ module _ (s : tie.Start) where
 
   -- tape and log between the two
   abbrev between : Bus
-  between = busOf (now (s .args .tape)) logged (onward (s .args .at) 3 (4 + n))
+  between = busOf (now (s .args .tape)) logged (further (s .args .at) 3 (4 + n))
 
   need : 4 + n ≡ length (logField wrote)
   unfolding logField field

@@ -7,7 +7,7 @@ use native.Mathlib.Omega.{arith}
 use lib.ListN.{length, take, drop}
 use denote.Ref.{now}
 use Rattle.frames.specs.Put.{put}
-use Rattle.bus.specs.Fields.{field}
+use Rattle.fields.specs.Fields.{field}
 use Rattle.bus.specs.Transfers.{Transfer, read, Bus, busOf, logField, wanted}
 use Rattle.raw.specs.declared.transfer.Reply.the-variants.{Made}
 use Rattle.raw.proofs.Moves.{Replied, room, there, read-by}

@@ -12,7 +12,7 @@ use Rattle.bus.proofs.Calls.{read-on, read-off}
 use Rattle.bq769x0.specs.Record.{Left, leaving}
 use Rattle.bq769x0.specs.declared.BQ769x0.{BQ769x0}
 use Rattle.procedure.specs.Calibrate.{calibrate}
-use Rattle.setup.specs.Stages.{calibratedBy}
+use Rattle.setup.specs.Inside.{calibratedBy}
 use Rattle.setup.proofs.Onward.{by-link}
 use borrow.Author.Needs.{needs}
 use Rattle.setup.proofs.calibrate.calibrate.Statement.{statement}

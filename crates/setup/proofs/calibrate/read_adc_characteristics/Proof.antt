@@ -13,7 +13,7 @@ use Rattle.bq769x0.specs.Record.{Left, isSound}
 use Rattle.bq769x0.specs.declared.BQ769x0.{BQ769x0}
 use Rattle.bq769x0.proofs.Soundly.{sound-on, sound-off}
 use Rattle.procedure.specs.Calibrate.{calibrate, readAdcCharacteristics}
-use Rattle.setup.specs.Stages.{calibratedBy}
+use Rattle.setup.specs.Inside.{calibratedBy}
 use borrow.Author.Needs.{needs}
 use Rattle.setup.proofs.calibrate.read_adc_characteristics.Statement.{statement}
 use Rattle.setup.proofs.calibrate.read_adc_characteristics.Tie as tie

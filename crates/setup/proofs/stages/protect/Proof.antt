@@ -4,7 +4,7 @@ use denote.Ref.{now}
 use Rattle.refusals.specs.Refusal.{Refusal, Answer, value, refused}
 use Rattle.adc.specs.declared.transfer.AdcTransferFunction.{AdcTransferFunction}
 use Rattle.plan.specs.Steps.{InMv, inMv}
-use Rattle.plan.specs.Plan.{Values, asInit, asValues, asPlan, planFor, outcome}
+use Rattle.plan.specs.Plan.{Values, asInit, asValues, asPlan, planFor, withBytes}
 use Rattle.plan.specs.declared.Config.{Config}
 use Rattle.plan.specs.declared.Plan.{Plan}
 use Rattle.bus.specs.Transfers.{Bus, busOf}
@@ -14,7 +14,7 @@ use Rattle.bus.proofs.Programs.{went-on, went-off, pure-on, pure-off}
 use Rattle.bq769x0.specs.Record.{Left}
 use Rattle.procedure.specs.Init.{protect}
 use Rattle.bq769x0.specs.declared.BQ769x0.{BQ769x0}
-use Rattle.setup.specs.Stages.{protectedBy}
+use Rattle.setup.specs.Inside.{protectedBy}
 use Rattle.setup.proofs.Onward.{by-link, plan-on, plan-off}
 use borrow.Author.Needs.{needs}
 use Rattle.setup.proofs.stages.protect.Statement.{statement}
@@ -42,12 +42,12 @@ module _ (s : tie.Start) where
 -- ---- the laws, over any results of the calls: each assumption is what one call ensures
 module _ (s : tie.Start) (p : Plan)
     (plan-is : asPlan p
-    ≡ outcome (planFor (s .args .adc .gain) (s .args .adc .offset) (config s) (steps s .scd) (steps s .ocd)))
+    ≡ withBytes (planFor (s .args .adc .gain) (s .args .adc .offset) (config s) (steps s .scd) (steps s .ocd)))
     (d : BQ769x0) (link-is : d .link ≡ s .args .link) (adc-is : d .adc ≡ s .args .adc) where
-  planned : asPlan p ≡ outcome (planFor (d .adc .gain) (d .adc .offset) (config s) (steps s .scd) (steps s .ocd))
+  planned : asPlan p ≡ withBytes (planFor (d .adc .gain) (d .adc .offset) (config s) (steps s .scd) (steps s .ocd))
   planned =
       plan-is
-      ∙ ap (λ (x : AdcTransferFunction). outcome (planFor (x .gain) (x .offset) (config s) (steps s .scd) (steps s .ocd))) (sym adc-is)
+      ∙ ap (λ (x : AdcTransferFunction). withBytes (planFor (x .gain) (x .offset) (config s) (steps s .scd) (steps s .ocd))) (sym adc-is)
 
   unplanned : {r : Refusal} → asInit (p .answer) ≡ refused r → onTape (protectedBy (config s) d (refused r)) (bus s) ≡ whole s d
   unfolding protect onTape

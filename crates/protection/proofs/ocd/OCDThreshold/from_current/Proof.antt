@@ -3,7 +3,7 @@ use mathlib.Core.Path.{ap, sym, _∙_}
 use mathlib.Core.List.{_++_}
 use borrow.Author.Needs.{needs}
 use Rattle.refusals.specs.Refusal.{value}
-use Rattle.protection.specs.Answers.{asAcross}
+use Rattle.protection.specs.Inside.{asAcross}
 use Rattle.protection.specs.Steps.{ocdLower, ocdUpper, chosen}
 use Rattle.protection.proofs.ocd.OCDThreshold.from_current.Statement.{statement}
 use Rattle.protection.proofs.ocd.OCDThreshold.from_current.Tie as tie

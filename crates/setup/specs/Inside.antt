@@ -1,4 +1,4 @@
--- What a stage of `init` that takes no record comes to, for a record.
+-- What private contracts cite: what a stage of `init` that takes no record comes to, for a record. Nobody has to believe it.
 -- Assumes nothing.
 use Prim.Native.Nat.{ℕ}
 use mathlib.Core.List.{List}

@@ -1,4 +1,4 @@
--- Fields, of which tape and log are made: a tag byte, a two-byte length, high first, and a value.
+-- Fields, of which jobs, tape and log are made: a tag byte, a two-byte length, high first, and a value.
 -- Assumes nothing.
 use Prim.Native.Nat.{ℕ, _/_, _%_}
 use mathlib.Core.List.{List, [], _∷_}

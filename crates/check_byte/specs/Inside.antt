@@ -1,4 +1,5 @@
--- What the code does in place of times x^8.
+-- What private contracts cite: what the code does in place of times x^8. Nobody has to believe it.
+-- Assumes nothing.
 use Prim.Native.Nat.{ℕ, _*_}
 use lib.Bits.{bitXor}
 

@@ -1,4 +1,5 @@
--- What the code's private steps leave in the sixteen places for the inputs, each below zero as 2^32 less its size.
+-- What private contracts cite: what the code leaves in the sixteen places for the inputs, each below zero as 2^32 less its size.
+-- Nobody has to believe it.
 -- Assumes nothing.
 use mathlib.Core.Path.{_≡_}
 use mathlib.Core.List.{List, map}

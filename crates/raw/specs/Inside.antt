@@ -1,4 +1,4 @@
--- What the code's private steps say of one transfer, in the terms of Transfers.
+-- What private contracts cite: what the code's steps say of one transfer, in the terms of Transfers. Nobody has to believe it.
 -- Assumes nothing.
 use mathlib.Core.Path.{_≡_}
 use mathlib.Core.Bool.{Bool, true, false, _&&_}
@@ -24,13 +24,13 @@ judged want tag len =
     else if eqb tag 0x02 && leb len want then Made true len
     else Stopped E.BadTape
 
-abbrev pub delivered : Bool → List ℕ → Outcome
-delivered false bytes = done bytes
-delivered true bytes = fault bytes
+abbrev pub endedAs : Bool → List ℕ → Outcome
+endedAs false bytes = done bytes
+endedAs true bytes = fault bytes
 
 -- a reply, with the bytes among which those delivered stand first
 abbrev pub outcomeOf : Reply → List ℕ → Outcome
-outcomeOf (Made faulted n) bytes = delivered faulted (take n bytes)
+outcomeOf (Made faulted n) bytes = endedAs faulted (take n bytes)
 outcomeOf (Stopped e) bytes = stopped (asRefusal e)
 
 -- as many bytes as are wanted, or at most those before a fault; and no more than stand there
@@ -45,10 +45,10 @@ pub record Heard (want : ℕ) (rest : List ℕ) (answer : Outcome) (r : Reply) :
   pub within : Within want (length rest) r
 
 -- the caller's buffer after a read: the bytes delivered, and what stood behind them
-abbrev pub storedIn : List ℕ → Outcome → List ℕ
-storedIn buf (done bytes) = put buf 0 bytes
-storedIn buf (fault bytes) = put buf 0 bytes
-storedIn buf (stopped r) = buf
+abbrev pub bufferAfter : List ℕ → Outcome → List ℕ
+bufferAfter buf (done bytes) = put buf 0 bytes
+bufferAfter buf (fault bytes) = put buf 0 bytes
+bufferAfter buf (stopped r) = buf
 
 -- a transfer that went as its outcome on a bus says
 pub record WentBy (t : Transfer) (b : Bus) (o : Outcome) (log : List ℕ) (at : Cursor) : Type 0 where
@@ -57,15 +57,15 @@ pub record WentBy (t : Transfer) (b : Bus) (o : Outcome) (log : List ℕ) (at : 
 
 pub record ReadBy (t : Transfer) (b : Bus) (buf : List ℕ) (m : Moved) (buf′ log′ : List ℕ) : Type 0 where
   pub moved : WentBy t b (outcomeOf (m .reply) buf′) log′ (m .at)
-  pub stored : buf′ ≡ storedIn buf (outcome t b)
+  pub stored : buf′ ≡ bufferAfter buf (outcome t b)
   pub whole : (n : ℕ) → m .reply ≡ Made false n → n ≡ length buf
 
 pub record WrittenBy (t : Transfer) (b : Bus) (m : Moved) (log′ : List ℕ) : Type 0 where
   pub moved : WentBy t b (outcomeOf (m .reply) []) log′ (m .at)
 
 -- so many bytes further on tape and log
-abbrev pub onward : Cursor → ℕ → ℕ → Cursor
-onward at tape log = record { tape = at .tape + tape; log = at .log + log }
+abbrev pub further : Cursor → ℕ → ℕ → Cursor
+further at tape log = record { tape = at .tape + tape; log = at .log + log }
 
 -- so far both go
 abbrev pub Reaches : Bus → ℕ → ℕ → Type 0
@@ -74,7 +74,7 @@ Reaches b tape log = (b .at .tape + tape ≤ length (b .tape)) × (b .at .log + 
 -- a read that is done, with all that it wants
 abbrev pub ReadWhole : Transfer → Bus → List ℕ → List ℕ → List ℕ → Type 0
 ReadWhole t b buf buf′ log′ =
-    ReadBy t b buf (record { reply = Made false (length buf); at = onward (b .at) (3 + length buf) 7 }) buf′ log′
+    ReadBy t b buf (record { reply = Made false (length buf); at = further (b .at) (3 + length buf) 7 }) buf′ log′
 
 -- a read by the short way: done, or nothing touched
 abbrev pub GotBy : Transfer → Bus → List ℕ → Bool → List ℕ → List ℕ → Type 0
@@ -84,7 +84,7 @@ GotBy t b buf false buf′ log′ = (buf′ ≡ buf) × (log′ ≡ b .log)
 -- so of a write of so many bytes
 abbrev pub SentBy : Transfer → Bus → ℕ → Bool → List ℕ → Type 0
 SentBy t b n true log′ =
-    WrittenBy t b (record { reply = Made false 0; at = onward (b .at) 3 (4 + n) }) log′ × Reaches b 3 (4 + n)
+    WrittenBy t b (record { reply = Made false 0; at = further (b .at) 3 (4 + n) }) log′ × Reaches b 3 (4 + n)
 SentBy t b n false log′ = log′ ≡ b .log
 
 -- so of a write `t` and a read `u` after it
@@ -92,7 +92,7 @@ abbrev pub EchoedBy : Transfer → Transfer → Bus → ℕ → List ℕ → Boo
 EchoedBy t u b n back true back′ log′ =
     let logged = put (b .log) (b .at .log) (logField t) in
     SentBy t b n true logged
-    × ReadWhole u (busOf (b .tape) logged (onward (b .at) 3 (4 + n))) back back′ log′
+    × ReadWhole u (busOf (b .tape) logged (further (b .at) 3 (4 + n))) back back′ log′
     × Reaches b (3 + (3 + length back)) (4 + n + 7)
 EchoedBy t u b n back false back′ log′ = (back′ ≡ back) × (log′ ≡ b .log)
 
