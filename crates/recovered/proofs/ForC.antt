@@ -46,7 +46,8 @@ use Rattle.recovery.proofs.SameLog.{in-step}
 use Rattle.job_setup.specs.JobInit.{noDevice, jobInit}
 use Rattle.firmware.specs.Handed.{Handed, handed, layout, asC}
 use Rattle.layout.specs.Layout.{laid}
-use Rattle.recovered.specs.ForC.{Call, Made, logUsed, logged, leftBy, Calls, none-yet, one-more, recordFor, broughtBy, newOf, linkOf, Alike, Recovers, Survives, Demand3}
+use Rattle.recovered.specs.ForC.{Call, Run, logUsed, loggedTransfers, leftBy, Calls, none-yet, one-more, recordFor, broughtBy}
+use Rattle.recovered.specs.ForC.{newOf, linkOf, Alike, Recovers, Survives, Demand3}
 
 -- ---- a job's program: nothing, or the `init` of a new record
 abbrev recordOf : List ℕ → BQ769x0
@@ -87,7 +88,7 @@ position at numbers =
     ap₂ word8 (word4-four (at .log / 4294967296)) (word4-four (at .log % 4294967296)) ∙ word8-eight (at .log)
 
 -- ---- one call
-module _ {job : List ℕ} {w : Wired} {call : Call} (made : Made job w call) where
+module _ {job : List ℕ} {w : Wired} {call : Call} (made : Run job w call) where
   abbrev p : Prog (Left Values)
   p = jobInit job
 
@@ -115,7 +116,7 @@ module _ {job : List ℕ} {w : Wired} {call : Call} (made : Made job w call) whe
   unfolding moved
   log-is = ap (λ (h : Handed). h .log) handed-is
 
-  read-back : logged call ≡ some (transfersOf p w)
+  read-back : loggedTransfers call ≡ some (transfersOf p w)
   unfolding moved
   read-back =
       let l = logOf onWire p w in
@@ -129,7 +130,7 @@ module _ {job : List ℕ} {w : Wired} {call : Call} (made : Made job w call) whe
       ∙ sym (fed-last (fine job (program job) .quits) w)
 
 -- two that do the same, in step
-alike : {job : List ℕ} {w w′ : Wired} {a b : Call} → Made job w a → Made job w′ b
+alike : {job : List ℕ} {w w′ : Wired} {a b : Call} → Run job w a → Run job w′ b
     → onChip (jobInit job) w ≡ onChip (jobInit job) w′ → InStep (jobInit job) w (jobInit job) w′ → Alike w w′ a b
 unfolding moved
 alike x y same steps =
@@ -188,7 +189,7 @@ module _ (job : List ℕ) (c : Chip) (m : Matches (linkOf job) c) where
   leaves-then (sets-up ok q e) calls = left-then ok q e calls
 
   again-alike : Program job → {c′ : Chip} → Calls job c c′
-      → (second first : Call) → Made job (uncut c′) second → Made job (uncut c) first → Alike (uncut c′) (uncut c) second first
+      → (second first : Call) → Run job (uncut c′) second → Run job (uncut c) first → Alike (uncut c′) (uncut c) second first
   again-alike (refuses r q e) {c′} calls second first x y =
       let same =
       nothing r e (uncut c′)
@@ -209,7 +210,7 @@ module _ (job : List ℕ) (c : Chip) (m : Matches (linkOf job) c) where
       let l = leaves-then (program job) calls in
       record { on = l .on; last = l .last; chip = l .chip; again = again-alike (program job) calls }
 
-survives : {job : List ℕ} {c : Chip} {cuts : ℕ → Option ℕ} {call : Call} → Made job (on c cuts) call → Survives job c cuts call
+survives : {job : List ℕ} {c : Chip} {cuts : ℕ → Option ℕ} {call : Call} → Run job (on c cuts) call → Survives job c cuts call
 survives {job = job} {cuts = cuts} {call = call} made = record {
   made = made;
   recovers = λ {c₀} m calls. recovers job c₀ m (one-more calls cuts call made);

@@ -35,7 +35,7 @@ pub record Call : Type 0 where
   pub log′ : List ℕ
 
 -- a call with a job, on a chip and its wire
-pub record Made (job : List ℕ) (w : Wired) (call : Call) : Type 0 where
+pub record Run (job : List ℕ) (w : Wired) (call : Call) : Type 0 where
   -- the tape goes as the chip answers, whatever comes then
   pub rest : List ℕ
   pub answers : call .tape ≡ tapeOf onWire (jobInit job) w ++ rest
@@ -48,20 +48,20 @@ pub record Made (job : List ℕ) (w : Wired) (call : Call) : Type 0 where
 abbrev pub logUsed : List ℕ → ℕ
 logUsed out = word8 (numberAt out 8) (numberAt out 12)
 
-abbrev pub logged : Call → Option (List Transfer)
-logged call =
+abbrev pub loggedTransfers : Call → Option (List Transfer)
+loggedTransfers call =
     let bytes = take (logUsed (call .out)) (call .log′) in
     transfersIn (length bytes) bytes
 
 abbrev pub leftBy : Wired → Call → Chip
-leftBy w call = leftOn w (transfers (logged call))
+leftBy w call = leftOn w (transfers (loggedTransfers call))
 
 -- ---- one call after another
 
 -- with one job, from chip c on, each on a wire of its own, cut anywhere, and with a tape, log and out of its own
 pub data Calls (job : List ℕ) (c : Chip) : Chip → Type 0 where
   none-yet : Calls job c c
-  one-more : {c′ : Chip} → Calls job c c′ → (cuts : ℕ → Option ℕ) (call : Call) → Made job (on c′ cuts) call
+  one-more : {c′ : Chip} → Calls job c c′ → (cuts : ℕ → Option ℕ) (call : Call) → Run job (on c′ cuts) call
       → Calls job c (leftBy (on c′ cuts) call)
 
 -- the new record of the device that the job names, and how many of the six an `init` of it brings
@@ -98,11 +98,11 @@ pub record Recovers {job : List ℕ} {c c′ : Chip} (calls : Calls job c c′) 
   pub last : on ≡ true → newOf calls ≡ 6
   pub chip : c′ ≡ chipLeft stepsFor (configOf job) c on (newOf calls)
   -- it ends as it would have at first
-  pub again : (second first : Call) → Made job (uncut c′) second → Made job (uncut c) first → Alike (uncut c′) (uncut c) second first
+  pub again : (second first : Call) → Run job (uncut c′) second → Run job (uncut c) first → Alike (uncut c′) (uncut c) second first
 
 -- One call with a job, on a chip and a wire that is cut anywhere.
 pub record Survives (job : List ℕ) (c : Chip) (cuts : ℕ → Option ℕ) (call : Call) : Type 0 where
-  pub made : Made job (on c cuts) call
+  pub made : Run job (on c cuts) call
   -- whatever calls came before it, from a chip that has the job's address and check setting
   pub recovers : {c₀ : Chip} → Matches (linkOf job) c₀ → (calls : Calls job c₀ c) → Recovers (one-more calls cuts call made)
 

@@ -24,7 +24,7 @@ use Rattle.chip.specs.OnChip.{Wired, onWire, onChip, fed}
 use Rattle.chip.proofs.Adequate.{adequate}
 use Rattle.chip.proofs.Honest.{chip-honest}
 use Rattle.chip.proofs.Fed.{transfersOf, log-decodes, fed-last}
-use Rattle.recovery.specs.Runs.{Call, Run, transfers, answersTo, added, readBack, used, leftBy}
+use Rattle.recovery.specs.Runs.{Call, Run, transfers, answersTo, added, loggedTransfers, used, leftBy}
 use Rattle.recovery.proofs.Asked.{init-fine}
 
 take-none : (k : ℕ) → take {A = ℕ} k [] ≡ []
@@ -71,7 +71,7 @@ module _ {choose : Config → Answer InMv} {config : Config} {d : BQ769x0} {w : 
       ∙ ap (drop n) (take-put (call .log) n l room)
       ∙ drop-at (take n (call .log)) l n (length-take-le n (call .log) (omega (arith, room)))
 
-  pub log-read : readBack call ≡ some (transfersOf p w)
+  pub log-read : loggedTransfers call ≡ some (transfersOf p w)
   log-read = ap (λ (l : List ℕ). transfersIn (length l) l) is-added ∙ log-decodes p w (init-fine choose config d .short)
 
   pub left-by-log : leftBy w call ≡ onChip p w .device .chip
@@ -90,6 +90,6 @@ module _ {choose : Config → Answer InMv} {config : Config} {d : BQ769x0} {w : 
       ∙ ap (take (length t)) (run .answers)
       ∙ take-at t (run .rest) (length t) refl
 
-  pub used-by-log : used call ≡ answersTo (transfers (readBack call)) w
+  pub used-by-log : used call ≡ answersTo (transfers (loggedTransfers call)) w
   used-by-log =
       is-used ∙ sym (answers-made p w) ∙ ap (λ (o : Option (List Transfer)). answersTo (transfers o) w) (sym log-read)

@@ -19,14 +19,14 @@ use Rattle.chip.specs.Devices.{tapeOf}
 use Rattle.chip.specs.OnChip.{Wired, uncut, onWire, onChip}
 use Rattle.chip.specs.declared.Chip.{Chip}
 use Rattle.recovery.specs.Recovery.{calibrationOf, planOn, Leaves}
-use Rattle.recovery.specs.Runs.{Call, enough, on, Run, transfers, answersTo, added, readBack, used, leftBy, Runs, one-more, newOf}
+use Rattle.recovery.specs.Runs.{Call, enough, on, Run, transfers, answersTo, added, loggedTransfers, used, leftBy, Runs, one-more, newOf}
 
 -- The log of a call reads back as transfers. These leave on the chip what the program leaves there, and the bytes of the tape that the
 -- call used are the chip's answers to them.
 pub record ByItsLog (choose : Config → Answer InMv) (config : Config) (d : BQ769x0) (w : Wired) (call : Call) : Type 0 where
-  pub reads-back : readBack call ≡ some (transfers (readBack call))
+  pub reads-back : loggedTransfers call ≡ some (transfers (loggedTransfers call))
   pub chip : leftBy w call ≡ onChip (initBy choose d config) w .device .chip
-  pub tape : used call ≡ answersTo (transfers (readBack call)) w
+  pub tape : used call ≡ answersTo (transfers (loggedTransfers call)) w
 
 -- Two calls end alike: in the answer, the record, and the chip with all its registers; they log the same bytes, and use as many of their
 -- tapes.

@@ -84,8 +84,8 @@ module _ (call : Call) where
   abbrev pub added : List ℕ
   added = drop (call .at .log) (take (call .gave .at .log) (call .log′))
 
-  abbrev pub readBack : Option (List Transfer)
-  readBack = transfersIn (length added) added
+  abbrev pub loggedTransfers : Option (List Transfer)
+  loggedTransfers = transfersIn (length added) added
 
   -- the bytes of the tape that it used
   abbrev pub used : List ℕ
@@ -93,7 +93,7 @@ module _ (call : Call) where
 
 -- what its transfers leave on the chip
 abbrev pub leftBy : Wired → Call → Chip
-leftBy w call = leftOn w (transfers (readBack call))
+leftBy w call = leftOn w (transfers (loggedTransfers call))
 
 -- ---- one call after another
 
