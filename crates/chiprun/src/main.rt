@@ -44,6 +44,7 @@ fn with_device(input: &mut [u8], device: Device) {
     if calls_at < calls::CALLS_AT {
         return;
     }
+    // Right ahead of the calls: from there on the input is a job of callrun's.
     front::put_device(device, input, calls_at - calls::CALLS_AT);
     with_calls(input, calls_at, chip, &cuts);
 }
