@@ -60,7 +60,7 @@ sized t b = by-room t b (Sized (wanted t)) (λ e. sized-said (wanted t) (drop (b
 plain-size : (buf : List ℕ) (o : Outcome) → Sized (length buf) o → length (plainly buf o .bytes) ≡ length buf
 unfolding plainly
 plain-size buf (done bytes) h = length-put buf 0 bytes (omega arith)
-plain-size buf (fault bytes) h = length-put buf 0 bytes (omega arith)
+plain-size buf (fault bytes) h = omega (arith, length-put buf 0 bytes (omega arith))
 plain-size buf (stopped r) h = refl
 
 where-right-size : (buf : List ℕ) (ok : Bool) (r : Read) → length (r .bytes) ≡ length buf
@@ -79,7 +79,8 @@ check-size address buf (done bytes) h =
     where-right-size buf (right (readByte address ∷ []) frame) (gives (value tt) (put buf 0 (dataOf frame)))
     (length-put buf 0 (dataOf frame) (omega (arith, length-data frame)))
 check-size address buf (fault bytes) h =
-    where-right-size buf (right (readByte address ∷ []) _) (gives (refuses 2) buf) refl
+    let frame = received (2 * length buf) bytes in
+    omega (arith, where-right-size buf (right (readByte address ∷ []) frame) (gives (refuses 2) buf) refl)
 check-size address buf (stopped r) h = refl
 
 -- ---- the read

@@ -81,13 +81,6 @@ module _ {choose : Config → Answer InMv} {config : Config} {c : Chip} where
   matches (one-more runs cuts call run) = matches runs
   matches (lost runs e m) = m
 
-  sound-then : {d d′ : BQ769x0} {c′ : Chip} → Runs choose config c d d′ c′ → isSound d ≡ true → isSound d′ ≡ true
-  sound-then (none-yet m) ok = ok
-  sound-then (one-more {d′ = d′} runs cuts call run) ok =
-      ap (λ (r : Ran (Left Values)). isSound (r .answer .device)) (run .promise)
-      ∙ init-keeps choose d′ config (busOf (call .tape) (call .log) (call .at)) (sound-then runs ok)
-  sound-then (lost runs e m) ok = ok
-
   left-then : {d d′ : BQ769x0} {c′ : Chip} (runs : Runs choose config c d d′ c′) → Leaves choose config d c (newOf runs) d′ c′
   unfolding newOf
   left-then (none-yet m) = at-first
@@ -95,6 +88,13 @@ module _ {choose : Config → Answer InMv} {config : Config} {c : Chip} where
       subst₂ (Leaves choose config d c (newOf (one-more runs cuts call run))) (sym (device-is run refl)) (sym (chip-is run refl))
       (stays choose config d c (matches runs) (newOf runs) d′ (on c′ cuts) (left-then runs))
   left-then (lost runs e m) = begun-again (left-then runs) e
+
+  sound-then : {d d′ : BQ769x0} {c′ : Chip} → Runs choose config c d d′ c′ → isSound d ≡ true → isSound d′ ≡ true
+  sound-then (none-yet m) ok = ok
+  sound-then (one-more {d′ = d′} runs cuts call run) ok =
+      ap (λ (r : Ran (Left Values)). isSound (r .answer .device)) (run .promise)
+      ∙ init-keeps choose d′ config (busOf (call .tape) (call .log) (call .at)) (sound-then runs ok)
+  sound-then (lost runs e m) ok = ok
 
   bytes-then : {d d′ : BQ769x0} {c′ : Chip} → Runs choose config c d d′ c′ → Bytes (c .regs) → Bytes (c′ .regs)
   bytes-then (none-yet m) h = h
