@@ -6,10 +6,10 @@
  * the call wants next: it is made on the bus, its answer takes the fault's place, and the next pass begins. Whether the fault was reached
  * is told by how far the tape is used, never by the number: with check bytes a read that faults is refused with 1.
  *
- * That such passes end as the call does on the device itself, with its answer, its transfers and the device as they leave it, and that
- * an init takes at most eight of them and a reading of the cells one more, is proved (crates/live/proofs/Calls.antt), for every device
- * whose answers are as long as was asked, or shorter where they fault. This header, which makes the passes, is only tested
- * (tests/c/live.c).
+ * It is proved of the three functions (crates/live/src/lib.rt) that such passes make each transfer once, in the call's order, and end as
+ * the call does on the bus itself; that a pass which comes to the fault has left inputs and list as they were; and that an init takes at
+ * most eight passes and a reading of the cells one more: for every bus whose answers are as long as was asked, or shorter where they
+ * fault. This header, which makes the passes, is only tested (tests/c/live.c).
  */
 #ifndef BQ769X0_LIVE_H
 #define BQ769X0_LIVE_H

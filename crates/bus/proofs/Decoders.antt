@@ -10,7 +10,7 @@ use lib.ListN.{length, length-append}
 use borrow.Author.Tests.{le-leb, eq-eqb}
 use Rattle.fields.specs.Fields.{field, Field, unfield}
 use Rattle.fields.proofs.Fields.{two-bytes, fieldOf, unfield-field}
-use Rattle.bus.specs.Decoders.{unlog, transfersIn}
+use Rattle.bus.specs.Decoders.{unlog, transfersIn, Fitting}
 use Rattle.bus.specs.Transfers.{Transfer, write, read, Outcome, done, fault, stopped}
 use Rattle.bus.specs.Transfers.{logField, tapeField, untape, says}
 use Rattle.bus.specs.Shown.{Made, logged}
@@ -39,13 +39,6 @@ unlog-log (read address reg count) rest h = (
 )
 
 -- ---- an outcome on the tape
-
--- what its field can hold and a transfer that wants n bytes takes
-abbrev pub Fitting : ℕ → Outcome → Type 0
-Fitting n (done bytes) = (length bytes ≡ n) × (length bytes < 65536)
-Fitting n (fault bytes) = (length bytes ≤ n) × (length bytes < 65536)
-Fitting n (stopped r) = ⊥
-
 says-field : (n tag : ℕ) (value rest : List ℕ) → length value < 65536
     → says n (field tag value ++ rest) ≡ untape n (some (fieldOf tag value rest))
 unfolding says field

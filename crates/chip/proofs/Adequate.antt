@@ -13,7 +13,8 @@ use Rattle.frames.proofs.Put.{put-none, put-put, length-put}
 use Rattle.bus.specs.Transfers.{Transfer, Outcome, done, fault, stopped, logField, tapeField, wanted}
 use Rattle.bus.specs.Transfers.{says, Bus, moved, after, answered, outcome}
 use Rattle.bus.specs.Programs.{Prog, ret, ask, onTape}
-use Rattle.bus.proofs.Decoders.{Fitting, says-tape}
+use Rattle.bus.specs.Decoders.{Fitting}
+use Rattle.bus.proofs.Decoders.{says-tape}
 use Rattle.bus.specs.Shown.{Made}
 use Rattle.bus.proofs.Framed.{made, history, Room}
 use Rattle.chip.specs.Devices.{Reached, onDevice, madeOn, logOf, tapeOf}

@@ -16,7 +16,8 @@ use Rattle.bus.specs.Programs.{Prog, ret, ask}
 use Rattle.bus.specs.Raw.{readBytes, writeRaw}
 use Rattle.bus.specs.declared.link.Link.{Link}
 use Rattle.bus.specs.Decoders.{transfersIn}
-use Rattle.bus.proofs.Decoders.{Short, Fitting, AllShort, transfers-logged}
+use Rattle.bus.specs.Decoders.{Fitting}
+use Rattle.bus.proofs.Decoders.{Short, AllShort, transfers-logged}
 use Rattle.bus.specs.Shown.{Made, logged, tapeFields}
 use Rattle.chip.specs.Devices.{Reached, reached, onDevice, madeOn, logOf, tapeOf}
 use Rattle.chip.specs.Chip.{answers, carried, respond, respondCut}

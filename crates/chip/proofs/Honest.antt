@@ -11,7 +11,7 @@ use lib.ListN.{drop, length-take}
 use Rattle.laws.specs.Choice.{if_then_else_}
 use Rattle.bus.specs.Transfers.{Transfer, write, read, done, fault, wanted, Bus}
 use Rattle.bus.specs.Programs.{Prog}
-use Rattle.bus.proofs.Decoders.{Fitting}
+use Rattle.bus.specs.Decoders.{Fitting}
 use Rattle.bus.proofs.Framed.{Room}
 use Rattle.chip.specs.Devices.{reached, logOf, tapeOf}
 use Rattle.chip.specs.Chip.{begun, shows, acknowledged, answers, carried, respondCut}

@@ -1,15 +1,15 @@
 -- A call on a live bus, made in passes, ends as it would on the device itself: the same answer, the same transfers in the log, and the
 -- device left the same. A pass that comes to the fault uses its tape to the end, and its log ends in the transfer wanted next.
 -- Assumes nothing.
-use mathlib.Core.Path.{_≡_, refl, sym, ap, ap₂, _∙_}
+use mathlib.Core.Path.{_≡_, refl, sym, ap, ap₂, subst, _∙_}
 use mathlib.Core.Bool.{Bool, true, false}
 use mathlib.Core.List.{List, [], _∷_, _++_, map, getLast?, append-assoc, append-nil}
-use mathlib.Core.Option.{some, bind, Option·none-ne-some}
+use mathlib.Core.Option.{some, bind, Option·some-injective, Option·none-ne-some}
 use Prim.Native.Nat.{ℕ, zero, suc, _+_, _≤_, _<_}
 use native.Mathlib.Omega.{arith}
 use lib.ListN.{length, take, drop, length-drop, length-append, drop-of-length-le}
 use lib.Dec.{leb}
-use borrow.Author.Tests.{le-leb, lt-leb}
+use borrow.Author.Tests.{leb-true, leb-false}
 use Rattle.laws.specs.Choice.{if_then_else_}
 use Rattle.refusals.specs.Refusal.{no}
 use Rattle.frames.specs.Put.{put}
@@ -18,13 +18,15 @@ use Rattle.fields.specs.Fields.{field}
 use Rattle.bus.specs.Transfers.{Transfer, Outcome, fault, stopped, logField, tapeField, wanted}
 use Rattle.bus.specs.Transfers.{says, Bus, start, busOf, moved, after, answered, outcome}
 use Rattle.bus.specs.Programs.{Prog, ret, ask, Ran, onTape}
-use Rattle.bus.proofs.Decoders.{Short, Fitting, AllShort, transfers-logged}
+use Rattle.bus.specs.Decoders.{Fitting}
+use Rattle.bus.proofs.Decoders.{Short, AllShort, transfers-logged}
 use Rattle.bus.specs.Shown.{Made, logged}
 use Rattle.bus.proofs.Framed.{Room}
 use Rattle.chip.specs.Devices.{Reached, reached, onDevice, madeOn, logOf, tapeOf}
-use Rattle.chip.specs.Live.{endsIn, passes, ended}
-use Rattle.chip.proofs.Adequate.{moved-moved, room-first, rest-moved, room-moved, outcome-fits, after-fits, adequate, AsOn}
+use Rattle.chip.specs.Live.{endsIn, Used, usedBy, andFault, ended, pass, CameToFault, wantsNext, Passes, none-yet, one-more, Goes}
+use Rattle.chip.proofs.Adequate.{moved-moved, room-first, rest-moved, room-moved, outcome-fits, after-fits, adequate}
 use Rattle.chip.proofs.Asks.{Asks, nothing, this}
+use Rattle.chip.proofs.Quits.{Over, over, Quits, ends, goes}
 
 -- ---- past the tape's end a transfer is not made: 16 or 17, and nothing is logged
 module _ (t : Transfer) (b : Bus) (end : length (b .tape) ≤ b .at .tape) where
@@ -52,6 +54,11 @@ all-used v l b e =
     let rest = length-drop (b .at .tape) (b .tape) in
     let size = ap length e in
     omega (arith, rest, size)
+
+-- a program that is over
+left-off : {A : Type 0} {Off : A → Type 0} {p : Prog A} → Over Off p → (b : Bus) → Off (onTape p b .answer)
+unfolding onTape
+left-off (over h) b = h
 
 last-more : (t : Transfer) (ts : List Transfer) (u : Transfer) → getLast? ts ≡ some u → getLast? (t ∷ ts) ≡ some u
 last-more t [] u e = absurd (Option·none-ne-some _ e)
@@ -149,39 +156,30 @@ module _ {S : Type 0} (move : S → Transfer → Reached S Outcome) where
       let h = take (suc n) (madeOn move p s) in
       rw (pass-made n p s, transfers-logged h (length (logged h)) (pass-short short (suc n) s) (omega arith)) (e .last)
 
-  -- ---- one pass of the loop
-  module _ {A : Type 0} (p : Prog A) (most : ℕ) (log tape : List ℕ) (s : S) where
-    abbrev lent : Bus
-    lent = busOf (tape ++ tapeField (fault [])) log start
-
-    goes-on : (b : Bus) (t : Transfer) → onTape p lent .bus ≡ b → length tape < b .at .tape
-        → endsIn (take (b .at .log) (b .log)) ≡ some t
-        → passes move (suc most) p log tape s
-        ≡ passes move most p (b .log) (tape ++ tapeField (move s t .answer)) (move s t .device)
-    unfolding passes bind
-    goes-on b t e past f = rw (e, lt-leb _ _ past, f)
-
-    ends : (r : Ran A) → onTape p lent ≡ r → r .bus .at .tape ≤ length tape
-        → passes move (suc most) p log tape s ≡ some (reached r s)
-    unfolding passes
-    ends r e within = rw (e, le-leb _ _ within)
+  -- ---- a pass where one more transfer is wanted: tape and log, and how a program that leaves at a fault left off
+  record Asked {A : Type 0} (Off : A → Type 0) (n : ℕ) (p : Prog A) (s : S) (b : Bus) : Type 0 where
+    bus : onTape p b .bus ≡ moved (passTape n p s) (passLog n p s) b
+    off : Off (onTape p b .answer)
 
   module _ (honest : (s : S) (t : Transfer) → Fitting (wanted t) (move s t .answer)) where
-    -- ---- a pass where one more transfer is wanted
-    pub pass-asks : {A : Type 0} (n : ℕ) (p : Prog A) (s : S) (b : Bus) → n < length (madeOn move p s)
+    pass-asks : {A : Type 0} {Off : A → Type 0} {p : Prog A} → Quits Off p → (n : ℕ) (s : S) (b : Bus) → n < length (madeOn move p s)
         → drop (b .at .tape) (b .tape) ≡ passTape n p s → Room b (passLog n p s)
-        → onTape p b .bus ≡ moved (passTape n p s) (passLog n p s) b
+        → Asked Off n p s b
     unfolding onTape madeOn answersOf passLog
-    pass-asks n (ret a) s b more h room = absurd (omega arith)
-    pass-asks zero (ask t k) s b more h room =
+    pass-asks ends n s b more h room = absurd (omega arith)
+    pass-asks {Off = Off} (goes {t} {k} on off) zero s b more h room =
         let v = tapeField (fault []) in
         let o : Outcome = fault [] in
         let is = outcome-fits t b [] room o (fault-fits (wanted t)) (h ∙ sym (append-nil v)) in
         let left = after-fits t b [] room o (fault-fits (wanted t)) in
-        ap (λ (x : Outcome). onTape (k x) (after t x b) .bus) is
-        ∙ ap (λ (x : Bus). onTape (k o) x .bus) left
-        ∙ past-end (k o) (moved v (logField t) b) (all-used v (logField t) b h)
-    pass-asks (suc n) (ask t k) s b more h room =
+        record {
+          bus =
+              ap (λ (x : Outcome). onTape (k x) (after t x b) .bus) is
+              ∙ ap (λ (x : Bus). onTape (k o) x .bus) left
+              ∙ past-end (k o) (moved v (logField t) b) (all-used v (logField t) b h);
+          off = subst (λ (x : Outcome). Off (onTape (k x) (after t x b) .answer)) (sym is) (left-off (off []) (after t o b));
+        }
+    pass-asks {Off = Off} (goes {t} {k} on off) (suc n) s b more h room =
         let o = move s t .answer in
         let s′ = move s t .device in
         let T = passTape n (k o) s′ in
@@ -190,73 +188,131 @@ module _ {S : Type 0} (move : S → Transfer → Reached S Outcome) where
         let here = room-first (logField t) L b room in
         let is = outcome-fits t b T here o (honest s t) (h ∙ join) in
         let left = after-fits t b T here o (honest s t) in
-        ap (λ (x : Outcome). onTape (k x) (after t x b) .bus) is
-        ∙ ap (λ (x : Bus). onTape (k o) x .bus) left
-        ∙ pass-asks n (k o) s′ (moved (tapeField o) (logField t) b) (omega arith)
-        (rest-moved (tapeField o) (logField t) b T (h ∙ join)) (room-moved (tapeField o) (logField t) b L room)
-        ∙ moved-moved (tapeField o) T (logField t) L b here
-        ∙ ap (λ (x : List ℕ). moved x (logField t ++ L) b) (sym join)
+        let next-one = pass-asks (on o) n s′ (moved (tapeField o) (logField t) b) (omega arith)
+        (rest-moved (tapeField o) (logField t) b T (h ∙ join)) (room-moved (tapeField o) (logField t) b L room) in
+        record {
+          bus =
+              ap (λ (x : Outcome). onTape (k x) (after t x b) .bus) is
+              ∙ ap (λ (x : Bus). onTape (k o) x .bus) left
+              ∙ next-one .bus
+              ∙ moved-moved (tapeField o) T (logField t) L b here
+              ∙ ap (λ (x : List ℕ). moved x (logField t ++ L) b) (sym join);
+          off =
+              subst (λ (x : Outcome). Off (onTape (k x) (after t x b) .answer)) (sym is)
+              (subst (λ (x : Bus). Off (onTape (k o) x .answer)) (sym left) (next-one .off));
+        }
 
-    -- ---- a pass where none is
-    pub pass-ends : {A : Type 0} (n : ℕ) (p : Prog A) (s : S) (b : Bus) → length (madeOn move p s) ≤ n
-        → drop (b .at .tape) (b .tape) ≡ passTape n p s → Room b (logOf move p s)
-        → AsOn move p s b
-    pass-ends n p s b all h room =
-        let v = tapeField (fault []) in
-        adequate move honest p s b v (h ∙ ap (λ (x : List ℕ). x ++ v) (all-answers n p s all)) room
+    module _ {A : Type 0} {Off : A → Type 0} {p : Prog A} (short : Asks Short p) (quits : Quits Off p) (s : S) where
+      -- ---- a pass over the answers to n transfers: one more is wanted, or none
+      data PassAt (n : ℕ) (log : List ℕ) (r : Ran A) : Type 0 where
+        asks : n < length (madeOn move p s) → (x : Next n p s) → length (answersOf n p s) < r .bus .at .tape
+            → r .bus .log ≡ put log 0 (passLog n p s) → endsIn (take (r .bus .at .log) (r .bus .log)) ≡ some (x .transfer)
+            → Off (r .answer) → PassAt n log r
+        is-done : reached r (deviceAt n p s) ≡ ended move p log s → r .bus .at .tape ≡ length (answersOf n p s) → PassAt n log r
 
-    -- ---- the loop
-    module _ {A : Type 0} (p : Prog A) (s : S) (short : Asks Short p) where
-      module _ (most n : ℕ) (log : List ℕ) (room : length (logOf move p s) ≤ length log) where
-        abbrev tape : List ℕ
-        tape = answersOf n p s
+      pass-at : (n : ℕ) (log : List ℕ) → length (logOf move p s) ≤ length log
+          → PassAt n log (onTape p (busOf (passTape n p s) log start))
+      unfolding moved tapeField field
+      pass-at n log room = by (leb (suc n) (length (madeOn move p s))) refl
+        where
+          b : Bus
+          b = busOf (passTape n p s) log start
 
-        abbrev made : List ℕ
-        made = passLog n p s
+          onTapeOf : List ℕ → Reached S (Ran A)
+          onTapeOf t =
+              let b = busOf (andFault t) log start in
+              let r = onDevice move p s in
+              reached (record { answer = r .answer; bus = moved (tapeOf move p s) (logOf move p s) b }) (r .device)
 
-        fits : 0 + length made ≤ length log
-        fits = omega (arith, pass-within n p s)
+          by : (more : Bool) → leb (suc n) (length (madeOn move p s)) ≡ more → PassAt n log (onTape p b)
+          by true e =
+              let more = leb-true (suc n) (length (madeOn move p s)) e in
+              let fits : 0 + length (passLog n p s) ≤ length log = omega (arith, pass-within n p s) in
+              let asked = pass-asks quits n s b more refl fits in
+              let x = next n p s more in
+              asks more x (rw (asked .bus, length-append) (omega arith)) (ap (λ (b : Bus). b .log) (asked .bus))
+              (rw (asked .bus, take-put log 0 (passLog n p s) fits) (ends-in short n s x)) (asked .off)
+          by false e =
+              let all : length (madeOn move p s) ≤ n = omega (arith, leb-false (suc n) (length (madeOn move p s)) e) in
+              let whole = all-answers n p s all in
+              let on = adequate move honest p s b (tapeField (fault [])) (ap andFault whole) (omega arith) .ran in
+              is-done (ap₂ reached on (at-end n p s all) ∙ ap onTapeOf whole)
+              (omega (arith, ap (λ (r : Ran A). r .bus .at .tape) on, ap length whole))
 
-        wants : n < length (madeOn move p s)
-            → passes move (suc most) p log tape (deviceAt n p s)
-            ≡ passes move most p (put log 0 made) (answersOf (suc n) p s) (deviceAt (suc n) p s)
-        unfolding moved tapeField field
-        wants more =
-            let x = next n p s more in
-            let b = busOf (passTape n p s) log start in
-            goes-on p most log tape (deviceAt n p s) _ (x .transfer) (pass-asks n p s b more refl fits)
-            (rw length-append (omega arith)) (rw (take-put log 0 made fits) (ends-in short n s x))
-            ∙ ap₂ (passes move most p (put log 0 made)) (sym (x .answers)) (sym (x .device))
+      -- ---- where passes stand: n transfers are made
+      module _ {O : Type 0} (given : Ran A → O) (used : O → Used) (faithful : (r : Ran A) → used (given r) ≡ usedBy r)
+          (log : List ℕ) (room : length (logOf move p s) ≤ length log) where
+        data At : ℕ → S → List ℕ → List ℕ → Type 0 where
+          at : (n : ℕ) {log′ : List ℕ} → n ≤ length (madeOn move p s) → length (logOf move p s) ≤ length log′
+              → ended move p log′ s ≡ ended move p log s → At n (deviceAt n p s) (answersOf n p s) log′
 
-        wants-none : length (madeOn move p s) ≤ n
-            → passes move (suc most) p log tape (deviceAt n p s) ≡ some (ended move p log s)
+        ended-over : (n : ℕ) (log′ : List ℕ) → length (logOf move p s) ≤ length log′
+            → ended move p (put log′ 0 (passLog n p s)) s ≡ ended move p log′ s
         unfolding moved
-        wants-none all =
-            let whole = all-answers n p s all in
-            let on = pass-ends n p s (busOf (passTape n p s) log start) all refl (omega arith) in
-            rw (whole, at-end n p s all)
-            (ends p most log (tapeOf move p s) (onDevice move p s .device) _ (rw whole at (on .ran)) (omega arith))
+        ended-over n log′ fits =
+            rw (put-over log′ 0 (passLog n p s) (omega (arith, pass-within n p s)) (logOf move p s) (pass-within n p s))
 
-        ended-over : ended move p (put log 0 made) s ≡ ended move p log s
-        unfolding moved
-        ended-over = rw (put-over log 0 made fits (logOf move p s) (pass-within n p s))
+        seen : (answers log′ : List ℕ) {o : O} → o ≡ pass move p given used answers log′
+            → used o ≡ usedBy (onTape p (busOf (andFault answers) log′ start))
+        seen answers log′ is = ap used is ∙ faithful (onTape p (busOf (andFault answers) log′ start))
 
-      -- from the pass on where n transfers are made and so many are still wanted
-      from : (more most n : ℕ) (log : List ℕ) → length (madeOn move p s) ≡ more + n → more ≤ most
-          → length (logOf move p s) ≤ length log
-          → passes move (suc most) p log (answersOf n p s) (deviceAt n p s) ≡ some (ended move p log s)
-      from zero most n log all few room = wants-none most n log room (omega arith)
-      from (suc more) zero n log all few room = absurd (omega arith)
-      from (suc more) (suc most) n log all few room =
-          let L = passLog n p s in
-          let size = length-put log 0 L (fits (suc most) n log room) in
-          wants (suc most) n log room (omega arith)
-          ∙ from more most (suc n) (put log 0 L) (omega arith) (omega arith) (rw size room)
-          ∙ ap some (ended-over most n log room)
+        onward : {n : ℕ} {s′ : S} {answers log′ : List ℕ} → At n s′ answers log′ → (o : O) → o ≡ pass move p given used answers log′
+            → CameToFault move p given used answers o → (t : Transfer) → wantsNext move p given used o ≡ some t
+            → At (suc n) (move s′ t .device) (answers ++ tapeField (move s′ t .answer)) (used o .bytes)
+        onward (at n {log′} few fits same) o is past t wants = by (pass-at n log′ fits)
+          where
+            used-is : used o ≡ usedBy (onTape p (busOf (passTape n p s) log′ start))
+            used-is = seen (answersOf n p s) log′ is
 
-      -- on every device whose answers fit, with room in the log, in one pass more than the call makes transfers
-      pub live : (most : ℕ) (log : List ℕ) → length (madeOn move p s) < most → length (logOf move p s) ≤ length log
-          → passes move most p log [] s ≡ some (ended move p log s)
-      unfolding answersOf deviceAt
-      live zero log few room = absurd (omega arith)
-      live (suc most) log few room = from (length (madeOn move p s)) most 0 log (omega arith) (omega arith) room
+            by : PassAt n log′ (onTape p (busOf (passTape n p s) log′ start))
+                → At (suc n) (move (deviceAt n p s) t .device) (answersOf n p s ++ tapeField (move (deviceAt n p s) t .answer)) (used o .bytes)
+            by (asks more x further bytes next off) =
+                let L = passLog n p s in
+                let size = length-put log′ 0 L (omega (arith, pass-within n p s)) in
+                let fits′ : length (logOf move p s) ≤ length (put log′ 0 L) = omega (arith, size) in
+                let it : t ≡ x .transfer =
+                Option·some-injective _ _ (sym wants ∙ ap (λ (u : Used). endsIn (take (u .log) (u .bytes))) used-is ∙ next) in
+                let log-is : used o .bytes ≡ put log′ 0 L = ap (λ (u : Used). u .bytes) used-is ∙ bytes in
+                rw (it, sym (x .device), sym (x .answers), log-is)
+                (at (suc n) more fits′ (ended-over n log′ fits ∙ same))
+            by (is-done e within) = absurd (omega (arith, past, ap (λ (u : Used). u .tape) used-is, within))
+
+        stands : {n : ℕ} {s′ : S} {answers log′ : List ℕ} → Passes move p given used s log n s′ answers log′ → At n s′ answers log′
+        unfolding deviceAt answersOf
+        stands none-yet = at 0 (omega arith) room refl
+        stands (one-more passes o is past t wants) = onward (stands passes) o is past t wants
+
+        -- ---- the pass after them
+        module _ (Left : O → Type 0) (leaves : (r : Ran A) → Off (r .answer) → Left (given r)) (most : ℕ)
+            (enough : length (madeOn move p s) < most) where
+          next-pass : {n : ℕ} {s′ : S} {answers log′ : List ℕ} → At n s′ answers log′ → (o : O) → o ≡ pass move p given used answers log′
+              → Goes move p given used Left most s log n s′ answers o
+          next-pass (at n {log′} few fits same) o is = by (pass-at n log′ fits)
+            where
+              used-is : used o ≡ usedBy (onTape p (busOf (passTape n p s) log′ start))
+              used-is = seen (answersOf n p s) log′ is
+
+              by : PassAt n log′ (onTape p (busOf (passTape n p s) log′ start))
+                  → Goes move p given used Left most s log n (deviceAt n p s) (answersOf n p s) o
+              by (asks more x further bytes next off) = record {
+                few = omega (arith, few, enough);
+                goes-on = λ past. record {
+                  transfer = x .transfer;
+                  wants = ap (λ (u : Used). endsIn (take (u .log) (u .bytes))) used-is ∙ next;
+                  off = subst Left (sym is) (leaves _ off);
+                };
+                ends = λ within. absurd (omega (arith, within, ap (λ (u : Used). u .tape) used-is, further));
+              }
+              by (is-done e within) = record {
+                few = omega (arith, few, enough);
+                goes-on = λ past. absurd (omega (arith, past, ap (λ (u : Used). u .tape) used-is, within));
+                ends = λ h. (
+                  is ∙ ap given (ap (λ (x : Reached S (Ran A)). x .answer) (e ∙ same)),
+                  ap (λ (x : Reached S (Ran A)). x .device) (e ∙ same),
+                );
+              }
+
+          -- on every device whose answers fit, with room in the log
+          pub live : {n : ℕ} {s′ : S} {answers log′ : List ℕ} → Passes move p given used s log n s′ answers log′
+              → (o : O) → o ≡ pass move p given used answers log′ → Goes move p given used Left most s log n s′ answers o
+          live passes = next-pass (stands passes)

@@ -1,3 +1,4 @@
 pub mod Agree
 pub mod Ranged
 mod Reading
+pub mod Positions

@@ -6,6 +6,8 @@ use Rattle.refusals.specs.Refusal.{Answer, numberOf}
 use Rattle.plan.specs.Plan.{Values}
 use Rattle.plan.specs.InNumbers.{initNumbers}
 use Rattle.layout.specs.Layout.{laid}
+use Rattle.numbers.specs.Numbers.{word8}
+use Rattle.job.specs.Jobs.{numberAt}
 use Rattle.bus.specs.Programs.{Ran}
 use Rattle.bus.specs.declared.Cursor.{Cursor}
 use Rattle.bq769x0.specs.Record.{Left}
@@ -24,3 +26,10 @@ handed number out log = record { number = number; out = out; log = log }
 
 abbrev pub asC : Ran (Left Values) → Handed
 asC r = handed (numberOf (r .answer .answer)) (layout (r .answer .answer) (r .bus .at)) (r .bus .log)
+
+-- how far tape and log are used, by out
+abbrev pub tapeUsed : List ℕ → ℕ
+tapeUsed out = word8 (numberAt out 0) (numberAt out 4)
+
+abbrev pub logUsed : List ℕ → ℕ
+logUsed out = word8 (numberAt out 8) (numberAt out 12)

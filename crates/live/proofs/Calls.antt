@@ -1,51 +1,60 @@
--- The three calls that C has, on a live bus: whatever the job, and on every device whose answers fit, the passes end as the call does on
--- the device itself. A job set up takes at most eight passes and 52 bytes of log, with a reading of the cells nine and 59.
+-- The three calls that C has, on a live bus: whatever the job, and on every bus whose answers fit, the passes end as the call does on the
+-- bus itself. A job set up takes at most eight passes and 52 bytes of log, with a reading of the cells nine and 59.
 -- Assumes nothing.
-use mathlib.Core.Path.{_≡_}
+use mathlib.Core.Path.{_≡_, refl, ap, ap₂, _∙_}
 use mathlib.Core.Bool.{not}
-use mathlib.Core.List.{List, []}
-use mathlib.Core.Option.{some}
-use Prim.Native.Nat.{ℕ, _*_, _≤_}
+use mathlib.Core.List.{List, [], map}
+use Prim.Native.Nat.{ℕ, _*_, _≤_, _<_}
 use native.Mathlib.Omega.{arith}
-use lib.ListN.{length, replicate}
+use lib.ListN.{replicate}
 use Rattle.refusals.specs.Refusal.{Answer, value, refused}
+use Rattle.units.specs.declared.MilliVolts.{MilliVolts}
 use Rattle.plan.specs.Steps.{stepsFor}
 use Rattle.plan.specs.Plan.{Values}
+use Rattle.plan.specs.InNumbers.{initNumbers}
 use Rattle.plan.specs.declared.Config.{Config}
-use Rattle.bus.specs.Transfers.{Transfer, Outcome, wanted}
-use Rattle.bus.proofs.Decoders.{Fitting}
-use Rattle.bq769x0.specs.Record.{isSound}
+use Rattle.bus.specs.Transfers.{start, busOf}
+use Rattle.bus.specs.Programs.{Prog, Ran, onTape}
+use Rattle.bus.specs.Raw.{Done}
+use Rattle.bq769x0.specs.Record.{Left, isSound}
 use Rattle.bq769x0.specs.Registers.{soundly}
 use Rattle.bq769x0.specs.declared.BQ769x0.{BQ769x0}
 use Rattle.procedure.specs.Inputs.{readInputs}
 use Rattle.procedure.specs.Cells as cells
-use Rattle.procedure.specs.Cells.{cellVoltages}
+use Rattle.procedure.specs.Cells.{Filled, cellVoltages}
 use Rattle.procedure.specs.Wired as wiring
-use Rattle.procedure.specs.Wired.{wired}
+use Rattle.procedure.specs.Wired.{Shown, wired}
 use Rattle.procedure.specs.Init.{initBy}
 use Rattle.job.specs.Jobs.{jobOf}
 use Rattle.job_setup.specs.JobInit.{deviceMade, jobInit}
+use Rattle.firmware.specs.Handed.{Handed, asC}
 use Rattle.firmware.specs.JobCells as by-list
-use Rattle.firmware.specs.JobCells.{jobCells}
+use Rattle.firmware.specs.JobCells.{Listed, storing, HandedList, jobCells, asList}
 use Rattle.firmware.specs.JobWired as by-wiring
-use Rattle.firmware.specs.JobWired.{jobWired}
-use Rattle.chip.specs.Devices.{Reached}
-use Rattle.chip.specs.Live.{passes, ended}
-use Rattle.recovery.proofs.Asked.{init-fine, enough-most}
-use Rattle.recovery.proofs.Live.{init-makes}
-use Rattle.live.proofs.Small.{Small, small-live, small-ret, small-if, small-bind, small-call, small-pure, small-read}
+use Rattle.firmware.specs.JobWired.{Beside, HandedBoth, jobWired, asBoth}
+use Rattle.layout.specs.Cells.{cellOf}
+use Rattle.firmware.proofs.Positions.{tape-read, log-read}
+use Rattle.chip.specs.Live.{Used, usedBy}
+use Rattle.chip.proofs.Live.{live}
+use Rattle.chip.proofs.Makes.{makes-on}
+use Rattle.chip.proofs.Quits.{Over, over, Refuses, refuses-by}
+use Rattle.recovery.proofs.Asked.{LeftOff, init-fine, enough-most}
+use Rattle.recovery.proofs.Makes.{init-makes}
+use Rattle.live.specs.Passes.{onBus, OnEveryBus, usedOf, InitLive, CellsLive, WiredLive}
+use Rattle.live.proofs.Small.{Small, small-ret, small-if, small-bind, small-call, small-pure, small-read}
 
 -- ---- a job set up
-init-small : (config : Config) (d : BQ769x0) → Small 7 52 (initBy stepsFor d config)
+init-small : (config : Config) (d : BQ769x0) → Small LeftOff 7 52 (initBy stepsFor d config)
 init-small config d =
     let f = init-fine stepsFor config d in
     record {
+      quits = f .quits;
       short = f .short;
       makes = init-makes stepsFor config d;
       logs = record { most = λ move s. omega (arith, f .logs .most move s, enough-most (d .link .check)) };
     }
 
-job-small : (job : List ℕ) → Small 7 52 (jobInit job)
+job-small : (job : List ℕ) → Small LeftOff 7 52 (jobInit job)
 unfolding jobInit
 job-small bytes =
     small-pure 7 52 _ _ (jobOf bytes) λ job e.
@@ -53,57 +62,112 @@ job-small bytes =
     init-small (job .config) device
 
 -- ---- a reading
-module _ (d : BQ769x0) where
-  inputs-small : Small 1 7 (readInputs (d .link) (d .adc))
-  unfolding readInputs
-  inputs-small = small-call 1 7 0 0 _ _ (small-read (d .link) 0x0C (2 * d .link .x)) λ bytes. small-ret 0 0 _
+-- where it leaves off it refuses, and by the wiring the inputs are as they were
+abbrev FilledOff : Filled → Type 0
+FilledOff f = Refuses (f .answer)
 
-  cells-small : (list : List ℕ) → Small 1 7 (cellVoltages d list)
+abbrev ShownOff : List ℕ → Shown → Type 0
+ShownOff inputs s = Refuses (s .answer) × (s .inputs ≡ inputs)
+
+module _ (d : BQ769x0) where
+  inputs-small : Small Refuses 1 7 (readInputs (d .link) (d .adc))
+  unfolding readInputs
+  inputs-small = small-call 1 7 0 0 _ _ (small-read (d .link) 0x0C (2 * d .link .x)) (λ bytes. small-ret Refuses 0 0 _) refuses-by
+
+  cells-small : (list : List ℕ) → Small FilledOff 1 7 (cellVoltages d list)
   unfolding cellVoltages soundly cells.readCells
   cells-small list =
-      small-if 1 7 (not (isSound d)) (small-ret 1 7 _)
-      (small-pure 1 7 _ _ _ λ x e. small-call 1 7 0 0 _ _ inputs-small λ inputs. small-ret 0 0 _)
+      small-if 1 7 (not (isSound d)) (small-ret FilledOff 1 7 _)
+      (small-pure 1 7 _ _ _ λ x e. small-call 1 7 0 0 _ _ inputs-small (λ inputs. small-ret FilledOff 0 0 _) refuses-by)
 
-  wired-small : (inputs list : List ℕ) → Small 1 7 (wired d inputs list)
+  wired-small : (inputs list : List ℕ) → Small (ShownOff inputs) 1 7 (wired d inputs list)
   unfolding wired soundly wiring.readWired
   wired-small inputs list =
-      small-if 1 7 (not (isSound d)) (small-ret 1 7 _)
-      (small-pure 1 7 _ _ _ λ x e. small-call 1 7 0 0 _ _ inputs-small λ readings. small-ret 0 0 _)
+      small-if 1 7 (not (isSound d)) (small-ret (ShownOff inputs) 1 7 _)
+      (small-pure 1 7 _ _ _ λ x e.
+      small-call 1 7 0 0 _ _ inputs-small (λ readings. small-ret (ShownOff inputs) 0 0 _) (λ r. (refuses-by r, refl)))
 
--- ---- and both
+-- ---- and both: where they leave off the lists are as they were
 module _ (list : List ℕ) where
-  ready-small : (d : BQ769x0) (y : Answer Values) → Small 1 7 (by-list.onlyReady list d y)
+  abbrev ListedOff : Listed → Type 0
+  ListedOff a = a .list ≡ list
+
+  stored-off : (n : ℕ) (cells : List MilliVolts) (values : Values) (d : BQ769x0) (y : Answer Done) → Refuses y
+      → storing n cells list values d y .list ≡ list
+  stored-off n cells values d y (refuses-by r) = refl
+
+  ready-small : (d : BQ769x0) (y : Answer Values) → Small ListedOff 1 7 (by-list.onlyReady list d y)
   unfolding by-list.readCells
   ready-small d (value values) =
-      small-pure 1 7 _ _ _ λ x e. small-bind 1 7 0 0 _ (cells-small d (replicate 15 0)) λ read. small-ret 0 0 _
-  ready-small d (refused r) = small-ret 1 7 _
+      small-pure 1 7 _ _ _ λ x e.
+      small-bind 1 7 0 0 _ (cells-small d (replicate 15 0)) (λ read. small-ret ListedOff 0 0 _)
+      (λ read q. over (stored-off (d .«cell_count») (read .device .readings .cells) values (read .device) (read .answer) q))
+  ready-small d (refused r) = small-ret ListedOff 1 7 _
 
-  job-cells-small : (job : List ℕ) → Small 8 59 (jobCells job list)
+  unready : (d : BQ769x0) (y : Answer Values) → Refuses y → Over ListedOff (by-list.onlyReady list d y)
+  unready d y (refuses-by r) = over refl
+
+  job-cells-small : (job : List ℕ) → Small ListedOff 8 59 (jobCells job list)
   unfolding jobCells
-  job-cells-small job = small-bind 7 52 1 7 _ (job-small job) λ left. ready-small (left .device) (left .answer)
+  job-cells-small job =
+      small-bind 7 52 1 7 _ (job-small job) (λ left. ready-small (left .device) (left .answer))
+      (λ left q. unready (left .device) (left .answer) q)
 
   module _ (inputs : List ℕ) where
-    ready-wired-small : (d : BQ769x0) (y : Answer Values) → Small 1 7 (by-wiring.onlyReady inputs list d y)
+    abbrev BesideOff : Beside → Type 0
+    BesideOff a = (a .inputs ≡ inputs) × (a .listed .list ≡ list)
+
+    ready-wired-small : (d : BQ769x0) (y : Answer Values) → Small BesideOff 1 7 (by-wiring.onlyReady inputs list d y)
     unfolding by-wiring.readWired
     ready-wired-small d (value values) =
-        small-pure 1 7 _ _ _ λ x e. small-bind 1 7 0 0 _ (wired-small d inputs (replicate 15 0)) λ read. small-ret 0 0 _
-    ready-wired-small d (refused r) = small-ret 1 7 _
+        small-pure 1 7 _ _ _ λ x e.
+        small-bind 1 7 0 0 _ (wired-small d inputs (replicate 15 0)) (λ read. small-ret BesideOff 0 0 _)
+        (λ read q. over (
+          q .1,
+          stored-off (d .«cell_count») (map cellOf (read .list)) values (read .device) (read .answer) (q .0),
+        ))
+    ready-wired-small d (refused r) = small-ret BesideOff 1 7 _
 
-    job-wired-small : (job : List ℕ) → Small 8 59 (jobWired job inputs list)
+    unready-wired : (d : BQ769x0) (y : Answer Values) → Refuses y → Over BesideOff (by-wiring.onlyReady inputs list d y)
+    unready-wired d y (refuses-by r) = over (refl, refl)
+
+    job-wired-small : (job : List ℕ) → Small BesideOff 8 59 (jobWired job inputs list)
     unfolding jobWired
-    job-wired-small job = small-bind 7 52 1 7 _ (job-small job) λ left. ready-wired-small (left .device) (left .answer)
+    job-wired-small job =
+        small-bind 7 52 1 7 _ (job-small job) (λ left. ready-wired-small (left .device) (left .answer))
+        (λ left q. unready-wired (left .device) (left .answer) q)
 
 -- ---- in passes
-module _ {S : Type 0} (move : S → Transfer → Reached S Outcome)
-    (honest : (s : S) (t : Transfer) → Fitting (wanted t) (move s t .answer)) (log : List ℕ) where
-  pub job-live : (job : List ℕ) → 52 ≤ length log → (s : S)
-      → passes move 8 (jobInit job) log [] s ≡ some (ended move (jobInit job) log s)
-  job-live job room s = small-live (job-small job) move honest 8 log (omega arith) room s
+small-goes : {A O : Type 0} {Off : A → Type 0} {m n : ℕ} {p : Prog A} → Small Off m n p
+    → (given : Ran A → O) (used : O → Used) → ((r : Ran A) → used (given r) ≡ usedBy r)
+    → (Kept : O → Type 0) → ((r : Ran A) → Off (r .answer) → Kept (given r))
+    → (most room : ℕ) → m < most → n ≤ room → (tape log : List ℕ) (o : O) → o ≡ given (onTape p (busOf tape log start))
+    → OnEveryBus p given used Kept most room tape log o
+small-goes {A} {p = p} h given used faithful Kept kept most room few enough tape log o is answers fit first roomy n made so-far passes t =
+    live (onBus answers) fit (h .short) (h .quits) [] given used faithful first (omega (arith, h .logs .most (onBus answers) [], roomy, enough))
+    Kept kept most (omega (arith, makes-on (onBus answers) (h .makes) [], few)) passes o
+    (is ∙ ap (λ (x : List ℕ). given (onTape p (busOf x log start))) t)
 
-  pub cells-live : (job list : List ℕ) → 59 ≤ length log → (s : S)
-      → passes move 9 (jobCells job list) log [] s ≡ some (ended move (jobCells job list) log s)
-  cells-live job list room s = small-live (job-cells-small list job) move honest 9 log (omega arith) room s
+-- what C goes by is how far the run used tape and log
+as-used : (r : Ran (Left Values)) → usedOf (asC r) ≡ usedBy r
+as-used r =
+    let numbers = initNumbers (r .answer .answer) in
+    ap₂ (λ (tape log : ℕ). record { tape = tape; log = log; bytes = r .bus .log }) (tape-read (r .bus .at) numbers) (log-read (r .bus .at) numbers)
 
-  pub wired-live : (job inputs list : List ℕ) → 59 ≤ length log → (s : S)
-      → passes move 9 (jobWired job inputs list) log [] s ≡ some (ended move (jobWired job inputs list) log s)
-  wired-live job inputs list room s = small-live (job-wired-small list inputs job) move honest 9 log (omega arith) room s
+module _ (job tape log : List ℕ) where
+  pub init-live : {o : Handed} → o ≡ asC (onTape (jobInit job) (busOf tape log start)) → InitLive job tape log o
+  init-live is = small-goes (job-small job) asC usedOf as-used (λ h. Done) (λ r q. tt) 8 52 (omega arith) (omega arith) tape log _ is
+
+  pub cells-live : (list : List ℕ) {o : HandedList} → o ≡ asList (onTape (jobCells job list) (busOf tape log start))
+      → CellsLive job list tape log o
+  cells-live list is =
+      small-goes (job-cells-small list job) asList (λ o. usedOf (o .handed))
+      (λ r. as-used (record { answer = r .answer .left; bus = r .bus })) (λ o. o .list ≡ list) (λ r q. q) 9 59 (omega arith) (omega arith)
+      tape log _ is
+
+  pub wired-live : (inputs list : List ℕ) {o : HandedBoth} → o ≡ asBoth (onTape (jobWired job inputs list) (busOf tape log start))
+      → WiredLive job inputs list tape log o
+  wired-live inputs list is =
+      small-goes (job-wired-small list inputs job) asBoth (λ o. usedOf (o .handed .handed))
+      (λ r. as-used (record { answer = r .answer .listed .left; bus = r .bus }))
+      (λ o. (o .inputs ≡ inputs) × (o .handed .list ≡ list)) (λ r q. q) 9 59 (omega arith) (omega arith) tape log _ is

@@ -4,19 +4,16 @@ use mathlib.Core.Path.{_≡_, refl, sym, ap, ap₂, subst, subst₂, _∙_}
 use mathlib.Core.Bool.{Bool, true, false}
 use mathlib.Core.List.{List, []}
 use mathlib.Core.Option.{Option, some}
-use Prim.Native.Nat.{ℕ, _+_, _/_, _%_, _≤_, max}
+use Prim.Native.Nat.{ℕ, _+_, _≤_, max}
 use native.Mathlib.Omega.{arith}
 use lib.ListN.{length, take}
 use Rattle.refusals.specs.Refusal.{Refusal, Answer, value, refused, no, numberOf}
 use Rattle.frames.specs.Put.{put}
 use Rattle.frames.proofs.Put.{take-put}
-use Rattle.numbers.specs.Numbers.{word8, four, eight}
-use Rattle.numbers.proofs.Bytes.{word4-four, word8-eight}
 use Rattle.plan.specs.Order.{_andThen_}
 use Rattle.plan.specs.Steps.{stepsFor}
 use Rattle.plan.specs.Plan.{Values}
 use Rattle.plan.specs.InNumbers.{initNumbers}
-use Rattle.plan.specs.declared.answer.InitNumbers.{InitNumbers}
 use Rattle.job.specs.Jobs.{deviceOf, configOf}
 use Rattle.job.specs.Inside.{saysJob}
 use Rattle.job.proofs.ByTests.{job-by-tests}
@@ -44,9 +41,9 @@ use Rattle.recovery.proofs.Cut.{stays}
 use Rattle.recovery.proofs.Left.{at-first, begun-again}
 use Rattle.recovery.proofs.SameLog.{in-step}
 use Rattle.job_setup.specs.JobInit.{noDevice, jobInit}
-use Rattle.firmware.specs.Handed.{Handed, handed, layout, asC}
-use Rattle.layout.specs.Layout.{laid}
-use Rattle.recovered.specs.ForC.{Call, Run, logUsed, loggedTransfers, leftBy, Calls, none-yet, one-more, recordFor, broughtBy}
+use Rattle.firmware.specs.Handed.{Handed, handed, layout, asC, logUsed}
+use Rattle.firmware.proofs.Positions.{log-read}
+use Rattle.recovered.specs.ForC.{Call, Run, loggedTransfers, leftBy, Calls, none-yet, one-more, recordFor, broughtBy}
 use Rattle.recovered.specs.ForC.{newOf, linkOf, Alike, Recovers, Survives, Demand3}
 
 -- ---- a job's program: nothing, or the `init` of a new record
@@ -81,12 +78,6 @@ fine job (sets-up ok q e) =
       logs = record { most = λ move s. omega (arith, f .logs .most move s, enough-most (deviceOf job .check)) };
     })
 
--- ---- the log's position, read from its eight bytes
-position : (at : Cursor) (numbers : InitNumbers) → logUsed (laid at numbers) ≡ at .log
-unfolding laid eight four
-position at numbers =
-    ap₂ word8 (word4-four (at .log / 4294967296)) (word4-four (at .log % 4294967296)) ∙ word8-eight (at .log)
-
 -- ---- one call
 module _ {job : List ℕ} {w : Wired} {call : Call} (made : Run job w call) where
   abbrev p : Prog (Left Values)
@@ -120,7 +111,7 @@ module _ {job : List ℕ} {w : Wired} {call : Call} (made : Run job w call) wher
   unfolding moved
   read-back =
       let l = logOf onWire p w in
-      let end = ap logUsed out-is ∙ position (then .at) (initNumbers (onChip p w .answer .answer)) in
+      let end = ap logUsed out-is ∙ log-read (then .at) (initNumbers (onChip p w .answer .answer)) in
       let bytes = ap₂ take end log-is ∙ take-put (call .log) 0 l (omega (arith, few, made .room)) in
       ap (λ (b : List ℕ). transfersIn (length b) b) bytes ∙ log-decodes p w (fine job (program job) .short)
 

@@ -7,10 +7,9 @@ use mathlib.Core.Option.{Option}
 use Prim.Native.Nat.{ℕ, _≤_, max}
 use lib.ListN.{length, take}
 use Rattle.refusals.specs.Refusal.{Answer, value, refused}
-use Rattle.numbers.specs.Numbers.{word8}
 use Rattle.plan.specs.Order.{_andThen_}
 use Rattle.plan.specs.Steps.{stepsFor}
-use Rattle.job.specs.Jobs.{numberAt, deviceOf, configOf, jobOf}
+use Rattle.job.specs.Jobs.{deviceOf, configOf, jobOf}
 use Rattle.bus.specs.Transfers.{Transfer, start, busOf}
 use Rattle.bus.specs.Programs.{onTape}
 use Rattle.bus.specs.Decoders.{transfersIn}
@@ -22,7 +21,7 @@ use Rattle.chip.specs.declared.Chip.{Chip}
 use Rattle.recovery.specs.Recovery.{six, chipLeft, brought}
 use Rattle.recovery.specs.Runs.{on, transfers, leftOn}
 use Rattle.job_setup.specs.JobInit.{deviceMade, jobInit}
-use Rattle.firmware.specs.Handed.{handed, asC}
+use Rattle.firmware.specs.Handed.{handed, asC, logUsed}
 
 -- ---- one call
 
@@ -44,10 +43,7 @@ pub record Run (job : List ℕ) (w : Wired) (call : Call) : Type 0 where
   -- and `bq769x0_init` kept its promise
   pub promise : handed (call .number) (call .out) (call .log′) ≡ asC (onTape (jobInit job) (busOf (call .tape) (call .log) start))
 
--- how far the log is used, by bytes 8 to 15 of out; the transfers that this part of it reads back as, and what they leave on the chip
-abbrev pub logUsed : List ℕ → ℕ
-logUsed out = word8 (numberAt out 8) (numberAt out 12)
-
+-- the transfers that the log reads back as, as far as bytes 8 to 15 of out say that it is used, and what they leave on the chip
 abbrev pub loggedTransfers : Call → Option (List Transfer)
 loggedTransfers call =
     let bytes = take (logUsed (call .out)) (call .log′) in

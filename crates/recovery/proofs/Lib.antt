@@ -7,7 +7,7 @@ pub mod Again
 pub mod Asked
 pub mod ByLog
 pub mod EachRegister
-pub mod Live
+pub mod Makes
 pub mod OfBytes
 pub mod OnModel
 pub mod SameLog

@@ -1,0 +1,24 @@
+-- The two positions, read back from their eight bytes of out.
+-- Assumes nothing.
+use mathlib.Core.Path.{_≡_, ap₂, _∙_}
+use Prim.Native.Nat.{ℕ, _/_, _%_}
+use Rattle.numbers.specs.Numbers.{word8, four, eight}
+use Rattle.numbers.proofs.Bytes.{word4-four, word8-eight}
+use Rattle.job.specs.Jobs.{numberAt}
+use Rattle.plan.specs.declared.answer.InitNumbers.{InitNumbers}
+use Rattle.layout.specs.Layout.{laid}
+use Rattle.bus.specs.declared.Cursor.{Cursor}
+use Rattle.firmware.specs.Handed.{tapeUsed, logUsed}
+
+whole : (n : ℕ) → word8 (numberAt (eight n) 0) (numberAt (eight n) 4) ≡ n
+unfolding eight four
+whole n = ap₂ word8 (word4-four (n / 4294967296)) (word4-four (n % 4294967296)) ∙ word8-eight n
+
+module _ (at : Cursor) (numbers : InitNumbers) where
+  pub tape-read : tapeUsed (laid at numbers) ≡ at .tape
+  unfolding laid eight four
+  tape-read = whole (at .tape)
+
+  pub log-read : logUsed (laid at numbers) ≡ at .log
+  unfolding laid eight four
+  log-read = whole (at .log)
