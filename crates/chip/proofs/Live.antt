@@ -252,12 +252,12 @@ module _ {S : Type 0} (move : S → Transfer → Reached S Outcome) where
         ended-over n log′ fits =
             rw (put-over log′ 0 (passLog n p s) (omega (arith, pass-within n p s)) (logOf move p s) (pass-within n p s))
 
-        seen : (answers log′ : List ℕ) {o : O} → o ≡ pass move p given used answers log′
+        seen : (answers log′ : List ℕ) {o : O} → o ≡ pass p given answers log′
             → used o ≡ usedBy (onTape p (busOf (andFault answers) log′ start))
         seen answers log′ is = ap used is ∙ faithful (onTape p (busOf (andFault answers) log′ start))
 
-        onward : {n : ℕ} {s′ : S} {answers log′ : List ℕ} → At n s′ answers log′ → (o : O) → o ≡ pass move p given used answers log′
-            → CameToFault move p given used answers o → (t : Transfer) → wantsNext move p given used o ≡ some t
+        onward : {n : ℕ} {s′ : S} {answers log′ : List ℕ} → At n s′ answers log′ → (o : O) → o ≡ pass p given answers log′
+            → CameToFault used answers o → (t : Transfer) → wantsNext used o ≡ some t
             → At (suc n) (move s′ t .device) (answers ++ tapeField (move s′ t .answer)) (used o .bytes)
         onward (at n {log′} few fits same) o is past t wants = by (pass-at n log′ fits)
           where
@@ -285,7 +285,7 @@ module _ {S : Type 0} (move : S → Transfer → Reached S Outcome) where
         -- ---- the pass after them
         module _ (Left : O → Type 0) (leaves : (r : Ran A) → Off (r .answer) → Left (given r)) (most : ℕ)
             (enough : length (madeOn move p s) < most) where
-          next-pass : {n : ℕ} {s′ : S} {answers log′ : List ℕ} → At n s′ answers log′ → (o : O) → o ≡ pass move p given used answers log′
+          next-pass : {n : ℕ} {s′ : S} {answers log′ : List ℕ} → At n s′ answers log′ → (o : O) → o ≡ pass p given answers log′
               → Goes move p given used Left most s log n s′ answers o
           next-pass (at n {log′} few fits same) o is = by (pass-at n log′ fits)
             where
@@ -314,5 +314,5 @@ module _ {S : Type 0} (move : S → Transfer → Reached S Outcome) where
 
           -- on every device whose answers fit, with room in the log
           pub live : {n : ℕ} {s′ : S} {answers log′ : List ℕ} → Passes move p given used s log n s′ answers log′
-              → (o : O) → o ≡ pass move p given used answers log′ → Goes move p given used Left most s log n s′ answers o
+              → (o : O) → o ≡ pass p given answers log′ → Goes move p given used Left most s log n s′ answers o
           live passes = next-pass (stands passes)

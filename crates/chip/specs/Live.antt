@@ -37,12 +37,11 @@ ended move p log s =
     let b = busOf (andFault (tapeOf move p s)) log start in
     reached (record { answer = r .answer; bus = moved (tapeOf move p s) (logOf move p s) b }) (r .device)
 
--- a call by its program, and what its caller is given of a run of it
-module _ {S A O : Type 0} (move : S → Transfer → Reached S Outcome) (p : Prog A) (given : Ran A → O) (used : O → Used) where
-  -- a pass over the answers so far, with this log
-  abbrev pub pass : List ℕ → List ℕ → O
-  pass answers log = given (onTape p (busOf (andFault answers) log start))
+-- a pass of a program over the answers so far, with this log: what its caller is given of it
+abbrev pub pass : {A O : Type 0} → Prog A → (Ran A → O) → List ℕ → List ℕ → O
+pass p given answers log = given (onTape p (busOf (andFault answers) log start))
 
+module _ {O : Type 0} (used : O → Used) where
   -- it came to the fault
   abbrev pub CameToFault : List ℕ → O → Type 0
   CameToFault answers o = length answers < used o .tape
@@ -51,23 +50,24 @@ module _ {S A O : Type 0} (move : S → Transfer → Reached S Outcome) (p : Pro
   abbrev pub wantsNext : O → Option Transfer
   wantsNext o = endsIn (take (used o .log) (used o .bytes))
 
-  -- So many passes from a device and a log on, each of which came to the fault, and after it the transfer that it wants was made on the
-  -- device; the last indices are the device, its answers and the log then.
-  pub data Passes (s : S) (log : List ℕ) : ℕ → S → List ℕ → List ℕ → Type 0 where
-    none-yet : Passes s log 0 s [] log
-    one-more : {n : ℕ} {s′ : S} {answers log′ : List ℕ} → Passes s log n s′ answers log′
-        → (o : O) → o ≡ pass answers log′ → CameToFault answers o → (t : Transfer) → wantsNext o ≡ some t
-        → Passes s log (suc n) (move s′ t .device) (answers ++ tapeField (move s′ t .answer)) (used o .bytes)
-
   -- a pass that came to the fault: what it wants next, and how it left off
   pub record GoesOn (Off : O → Type 0) (o : O) : Type 0 where
     pub transfer : Transfer
     pub wants : wantsNext o ≡ some transfer
     pub off : Off o
 
+module _ {S A O : Type 0} (move : S → Transfer → Reached S Outcome) (p : Prog A) (given : Ran A → O) (used : O → Used) where
+  -- So many passes from a device and a log on, each of which came to the fault, and after it the transfer that it wants was made on the
+  -- device; the last indices are the device, its answers and the log then.
+  pub data Passes (s : S) (log : List ℕ) : ℕ → S → List ℕ → List ℕ → Type 0 where
+    none-yet : Passes s log 0 s [] log
+    one-more : {n : ℕ} {s′ : S} {answers log′ : List ℕ} → Passes s log n s′ answers log′
+        → (o : O) → o ≡ pass p given answers log′ → CameToFault used answers o → (t : Transfer) → wantsNext used o ≡ some t
+        → Passes s log (suc n) (move s′ t .device) (answers ++ tapeField (move s′ t .answer)) (used o .bytes)
+
   -- The pass after n of them. In all there are at most so many. Where it comes to the fault, a transfer is wanted; where it does not, the
   -- call is done as on the device itself, and the device is left so.
   pub record Goes (Off : O → Type 0) (most : ℕ) (s : S) (log : List ℕ) (n : ℕ) (s′ : S) (answers : List ℕ) (o : O) : Type 0 where
     pub few : n < most
-    pub goes-on : CameToFault answers o → GoesOn Off o
+    pub goes-on : CameToFault used answers o → GoesOn used Off o
     pub ends : used o .tape ≤ length answers → (o ≡ given (ended move p log s .answer)) × (s′ ≡ ended move p log s .device)

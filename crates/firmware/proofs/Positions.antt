@@ -15,10 +15,10 @@ unfolding eight four
 whole n = ap₂ word8 (word4-four (n / 4294967296)) (word4-four (n % 4294967296)) ∙ word8-eight n
 
 module _ (at : Cursor) (numbers : InitNumbers) where
-  pub tape-read : tapeUsed (laid at numbers) ≡ at .tape
+  pub tape-position : tapeUsed (laid at numbers) ≡ at .tape
   unfolding laid eight four
-  tape-read = whole (at .tape)
+  tape-position = whole (at .tape)
 
-  pub log-read : logUsed (laid at numbers) ≡ at .log
+  pub log-position : logUsed (laid at numbers) ≡ at .log
   unfolding laid eight four
-  log-read = whole (at .log)
+  log-position = whole (at .log)

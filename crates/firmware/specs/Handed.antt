@@ -27,7 +27,7 @@ handed number out log = record { number = number; out = out; log = log }
 abbrev pub asC : Ran (Left Values) → Handed
 asC r = handed (numberOf (r .answer .answer)) (layout (r .answer .answer) (r .bus .at)) (r .bus .log)
 
--- how far tape and log are used, by out
+-- how far the tape is used, by bytes 0 to 7 of out, and how far the log is, by bytes 8 to 15
 abbrev pub tapeUsed : List ℕ → ℕ
 tapeUsed out = word8 (numberAt out 0) (numberAt out 4)
 

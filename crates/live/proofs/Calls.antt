@@ -33,7 +33,7 @@ use Rattle.firmware.specs.JobCells.{Listed, storing, HandedList, jobCells, asLi
 use Rattle.firmware.specs.JobWired as by-wiring
 use Rattle.firmware.specs.JobWired.{Beside, HandedBoth, jobWired, asBoth}
 use Rattle.layout.specs.Cells.{cellOf}
-use Rattle.firmware.proofs.Positions.{tape-read, log-read}
+use Rattle.firmware.proofs.Positions.{tape-position, log-position}
 use Rattle.chip.specs.Live.{Used, usedBy}
 use Rattle.chip.proofs.Live.{live}
 use Rattle.chip.proofs.Makes.{makes-on}
@@ -152,7 +152,7 @@ small-goes {A} {p = p} h given used faithful Kept kept most room few enough tape
 as-used : (r : Ran (Left Values)) → usedOf (asC r) ≡ usedBy r
 as-used r =
     let numbers = initNumbers (r .answer .answer) in
-    ap₂ (λ (tape log : ℕ). record { tape = tape; log = log; bytes = r .bus .log }) (tape-read (r .bus .at) numbers) (log-read (r .bus .at) numbers)
+    ap₂ (λ (tape log : ℕ). record { tape = tape; log = log; bytes = r .bus .log }) (tape-position (r .bus .at) numbers) (log-position (r .bus .at) numbers)
 
 module _ (job tape log : List ℕ) where
   pub init-live : {o : Handed} → o ≡ asC (onTape (jobInit job) (busOf tape log start)) → InitLive job tape log o

@@ -42,7 +42,7 @@ use Rattle.recovery.proofs.Left.{at-first, begun-again}
 use Rattle.recovery.proofs.SameLog.{in-step}
 use Rattle.job_setup.specs.JobInit.{noDevice, jobInit}
 use Rattle.firmware.specs.Handed.{Handed, handed, layout, asC, logUsed}
-use Rattle.firmware.proofs.Positions.{log-read}
+use Rattle.firmware.proofs.Positions.{log-position}
 use Rattle.recovered.specs.ForC.{Call, Run, loggedTransfers, leftBy, Calls, none-yet, one-more, recordFor, broughtBy}
 use Rattle.recovered.specs.ForC.{newOf, linkOf, Alike, Recovers, Survives, Demand3}
 
@@ -111,7 +111,7 @@ module _ {job : List ℕ} {w : Wired} {call : Call} (made : Run job w call) wher
   unfolding moved
   read-back =
       let l = logOf onWire p w in
-      let end = ap logUsed out-is ∙ log-read (then .at) (initNumbers (onChip p w .answer .answer)) in
+      let end = ap logUsed out-is ∙ log-position (then .at) (initNumbers (onChip p w .answer .answer)) in
       let bytes = ap₂ take end log-is ∙ take-put (call .log) 0 l (omega (arith, few, made .room)) in
       ap (λ (b : List ℕ). transfersIn (length b) b) bytes ∙ log-decodes p w (fine job (program job) .short)
 
