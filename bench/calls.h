@@ -1,7 +1,7 @@
 /*
  * The calls of crates/bench, bench_wired and bench_commands, for the harness alone: on a record of these numbers, its offset as register
  * 51 has it, initialised where the shunt is not 0, its cells zero. Each gives 0 or a refusal's number; out is how far the tape is used,
- * how far the log, and the answer's value as a number, or 0: a current in mA, below zero as 2^32 less its size; a voltage in mV; a
+ * how far the log, and the answer's value as a number, or 0: a current in mA or a voltage in mV, below zero as 2^32 less its size; a
  * temperature's number of degrees, 2^32 more where a thermistor has them; a register's byte; a switch or the source, 0 or 1.
  */
 #ifndef BENCH_CALLS_H
@@ -15,7 +15,7 @@
 #define BUS const uint8_t *tape, size_t tape_len, uint8_t *log, size_t log_len, size_t out[3]
 
 /* bench */
-uint8_t bench_cells(RECORD, uint32_t *list, size_t list_len, BUS);
+uint8_t bench_cells(RECORD, int32_t *list, size_t list_len, BUS);
 uint8_t bench_current(RECORD, BUS);
 uint8_t bench_voltage(RECORD, BUS);
 uint8_t bench_temperature(RECORD, BUS);
@@ -23,7 +23,7 @@ uint8_t bench_read_raw(uint8_t x, uint8_t address, bool check, uint8_t reg, uint
 uint8_t bench_write_raw(uint8_t x, uint8_t address, bool check, uint8_t reg, const uint8_t *data, size_t data_len, BUS);
 
 /* bench_wired */
-uint8_t bench_wired(RECORD, uint8_t *inputs, size_t inputs_len, uint32_t *list, size_t list_len, BUS);
+uint8_t bench_wired(RECORD, uint8_t *inputs, size_t inputs_len, int32_t *list, size_t list_len, BUS);
 
 /* bench_commands */
 uint8_t bench_enable_balancing(RECORD, uint8_t set, BUS);

@@ -102,9 +102,9 @@ fn device<const X: usize>(record: &Record) -> BQ769x0<X> {
     BQ769x0::made(record.address, record.cells, record.gain, record.offset, MicroOhms(record.shunt))
 }
 
-/// 19 in front, where the crate would not answer 4.
-pub fn cells(record: &Record, list: &mut [u32], bus: &mut Bus) -> Found {
-    fn on<const X: usize>(record: &Record, list: &mut [u32], bus: &mut Bus) -> Result<[u32; 5], Found>
+/// 19 in front, where the crate would not answer 4. The crate's voltages have no sign, those of the list one, by the same bits.
+pub fn cells(record: &Record, list: &mut [i32], bus: &mut Bus) -> Found {
+    fn on<const X: usize>(record: &Record, list: &mut [i32], bus: &mut Bus) -> Result<[u32; 5], Found>
     where
         [(); X * 2]: Sized,
         [(); X * 4]: Sized,
@@ -116,7 +116,7 @@ pub fn cells(record: &Record, list: &mut [u32], bus: &mut Bus) -> Found {
         let cells = device.cell_voltages(bus);
         let cells = heard(bus, cells)?;
         for (place, cell) in list.iter_mut().zip(cells) {
-            *place = cell.0;
+            *place = cell.0 as i32;
         }
         Ok([0; 5])
     }

@@ -141,7 +141,7 @@ fn tell_ends(out: &mut [usize; 3], used: usize, logged: usize, five: &[u32; 5]) 
 #[no_mangle]
 pub unsafe extern "C" fn bench_cells(
     x: u8, cells: u8, address: u8, check: bool, gain: u16, b51: u8, shunt: u32,
-    list: *mut u32, list_len: usize, tape: *const u8, tape_len: usize, log: *mut u8, log_len: usize, out: &mut [usize; 3],
+    list: *mut i32, list_len: usize, tape: *const u8, tape_len: usize, log: *mut u8, log_len: usize, out: &mut [usize; 3],
 ) -> u8 {
     let (tape, log) = (from_raw_parts(tape, tape_len), from_raw_parts_mut(log, log_len));
     let list = from_raw_parts_mut(list, list_len);

@@ -13,7 +13,7 @@ enum { ADDRESS = 8, CELLS = 15, GAIN = 380, B51 = 0xEC, SHUNT = 1000, FILL = 0xC
 
 static uint8_t tape[256], log_[128], list[4 * CELLS], data[2 * CELLS], out[BQ769X0_OUT];
 static uint8_t fitted[CELLS];
-static uint32_t numbers[CELLS];
+static int32_t numbers[CELLS];
 static size_t tape_len, ends[3];
 static int inputs = CELLS, cells = CELLS; /* of the device, of the pack */
 

@@ -3,7 +3,8 @@
  * reading of its cells after it; and which cell of a pack sits on an input.
  *
  * All functions work on bytes in memory and touch nothing else: they read what the bus answered from a tape and write what they
- * sent into a log. Every number in a buffer stands with its high byte first.
+ * sent into a log. Every number in a buffer stands with its high byte first. Millivolts are signed, in two's complement, and bq769x0_i32
+ * reads them: UV and OV in job, each cell of list, UV and OV in out, and the figures of refusals 7 and 8. No other number has a sign.
  *
  *   job   field 20, the device, and field 21, the configuration: 34 bytes; more are not looked at
  *           20 0004  X (5, 10 or 15), cells, 7-bit address, check bytes (0 or 1)
@@ -13,7 +14,7 @@
  *   log   gets a field for each transfer: 11, two bytes of length, the address and every byte sent; 12, 0004, the address, the
  *         register and two bytes of count. An init takes 52 bytes of it, 45 with check bytes, a cell reading 7 more; bytes that
  *         no field takes are left as they were
- *   list  four bytes a cell, in mV, below zero as 2^32 less the size; bytes past the count of cells are left as they were
+ *   list  four bytes a cell, in mV, signed: FFFFFFFF is -1 mV; bytes past the count of cells are left as they were
  *   inputs  a byte a cell: the input, from 1, that the cell beside it in list sits on; bytes past the count are left as they were
  *   out   BQ769X0_OUT bytes, all written whatever the answer
  *
@@ -35,7 +36,7 @@ extern "C" {
 #endif
 
 /* Counts up where a function, a layout or a number of this header changes; and the Rust crate whose answers these are. */
-#define BQ769X0_VERSION 1
+#define BQ769X0_VERSION 2
 #define BQ769X0_CRATE "0.3.1"
 
 /*
@@ -47,8 +48,8 @@ extern "C" {
  *   16 to 19  the range: 0 lower, 1 upper  how many figures the refusal names: 0, 1 or 2
  *   20 to 23  SCD threshold in A           the first figure, 0 where there is none
  *   24 to 27  OCD threshold in A           the second figure, 0 where there is none
- *   28 to 31  UV threshold in mV           0
- *   32 to 35  OV threshold in mV           0
+ *   28 to 31  UV threshold in mV, signed   0
+ *   32 to 35  OV threshold in mV, signed   0
  */
 #define BQ769X0_OUT 36
 
@@ -73,11 +74,14 @@ static inline uint32_t bq769x0_u32(const uint8_t *at) {
 
 static inline uint64_t bq769x0_u64(const uint8_t *at) { return (uint64_t)bq769x0_u32(at) << 32 | bq769x0_u32(at + 4); }
 
-/* The millivolts of a cell of list, from 0, with their sign. */
-static inline int32_t bq769x0_millivolts(const uint8_t *list, size_t cell) {
-    uint32_t mv = bq769x0_u32(list + 4 * cell);
+/* The millivolts that begin at a place, with their sign, and those of a cell of list, from 0. A cast alone would leave to the compiler
+ * what a number below zero becomes. */
+static inline int32_t bq769x0_i32(const uint8_t *at) {
+    uint32_t mv = bq769x0_u32(at);
     return mv <= INT32_MAX ? (int32_t)mv : -(int32_t)(UINT32_MAX - mv) - 1;
 }
+
+static inline int32_t bq769x0_millivolts(const uint8_t *list, size_t cell) { return bq769x0_i32(list + 4 * cell); }
 
 /* What the functions return. A refusal leaves list, inputs and cell as they were, and in log every transfer that was made, the one that
  * faulted or showed the error included. */
@@ -89,8 +93,8 @@ enum bq769x0_refusal {
     BQ769X0_UNINITIALIZED = 4,        /* a reading before init */
     BQ769X0_VERIFY_ERROR = 5,         /* figure: the first register that reads back otherwise than written */
     BQ769X0_RANGE_MISMATCH = 6,       /* SCD and OCD have no range in common */
-    BQ769X0_UV_UNOBTAINABLE = 7,      /* figures: the lowest and the highest UV threshold in mV */
-    BQ769X0_OV_UNOBTAINABLE = 8,      /* figures: the lowest and the highest OV threshold in mV */
+    BQ769X0_UV_UNOBTAINABLE = 7,      /* figures: the lowest and the highest UV threshold in mV, signed */
+    BQ769X0_OV_UNOBTAINABLE = 8,      /* figures: the lowest and the highest OV threshold in mV, signed */
     BQ769X0_BAD_DEVICE = 9,           /* X is not 5, 10 or 15 */
     BQ769X0_BAD_CELL_COUNT = 10,      /* not 3 to 5, 6 to 10, 9 to 15 cells for that X */
     BQ769X0_BAD_ADDRESS = 11,         /* over 127 */

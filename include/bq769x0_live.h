@@ -107,7 +107,8 @@ static inline uint8_t bq769x0_live_passes(const struct bq769x0_live_call *call, 
     }
 }
 
-/* As bq769x0_init, bq769x0_init_wired and bq769x0_init_cells, with a bus in the place of tape and log. */
+/* As bq769x0_init, bq769x0_init_wired and bq769x0_init_cells, with a bus in the place of tape and log; the millivolts in job, list and out
+ * are signed as there. */
 static inline uint8_t bq769x0_live_init(const uint8_t *job, size_t job_len, const struct bq769x0_bus *bus, struct bq769x0_live *live,
                                         uint8_t out[BQ769X0_OUT]) {
     struct bq769x0_live_call call = {job, job_len, NULL, 0, NULL, 0, BQ769X0_READS_NONE};

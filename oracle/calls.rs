@@ -67,7 +67,7 @@ where
     }
 
     fn keep(&mut self, kept: &Kept) {
-        let cells = std::array::from_fn(|i| MilliVolts(kept.cells[i]));
+        let cells = std::array::from_fn(|i| MilliVolts(kept.cells[i] as u32));
         self.device.keep(kept.initialised, kept.gain, kept.offset, MicroOhms(kept.shunt), cells);
     }
 
@@ -76,7 +76,7 @@ where
         let (initialised, shunt, cells) = self.device.kept();
         let mut all = self.job.given.as_ref().map_or([0; 15], |given| given.kept.cells);
         for (place, cell) in all.iter_mut().zip(cells) {
-            *place = cell.0;
+            *place = signed(cell);
         }
         Kept { initialised, gain: self.device.adc_gain(), offset: self.device.adc_offset(), shunt: shunt.0, cells: all }
     }
@@ -90,7 +90,7 @@ where
             0x21 => return self.init(value),
             0x22 => return self.cells(&mut lent.list),
             0x23 => return self.current(),
-            0x24 => device.voltage(bus).map(|v| format!("voltage {}", v.0)),
+            0x24 => device.voltage(bus).map(|found| format!("voltage {}", signed(found))),
             0x25 => device.temperature(bus).map(degrees),
             0x26 => device.enable_balancing(bus, value[0]).map(done),
             0x27 => device.balancing_state(bus).map(|set| format!("balancing {set}")),
@@ -126,12 +126,12 @@ where
     }
 
     /// 19 in front, where the crate would not answer 4. The crate's own list goes into the lent one.
-    fn cells(&mut self, list: &mut [u32]) -> Result<String, String> {
+    fn cells(&mut self, list: &mut [i32]) -> Result<String, String> {
         if self.device.is_initialized() && list.len() < self.job.cells as usize {
             return Err("19".to_string());
         }
         let cells = self.device.cell_voltages(self.bus).map_err(number)?;
-        let cells: Vec<u32> = cells.iter().map(|cell| cell.0).collect();
+        let cells: Vec<i32> = cells.iter().map(|cell| signed(*cell)).collect();
         list[..cells.len()].copy_from_slice(&cells);
         Ok(format!("cells{}", numbers(&cells)))
     }
@@ -154,12 +154,12 @@ where
     }
 
     /// All inputs' voltages from a read's reply: five at a time, by the crate's own call for a BQ76920 of five cells, which moves none.
-    fn by_input(&self, reply: &[u8]) -> Vec<u32> {
+    fn by_input(&self, reply: &[u8]) -> Vec<i32> {
         let bytes: Vec<u8> = reply.iter().step_by(1 + self.job.check as usize).copied().collect();
         bytes.chunks(10).flat_map(|block| self.five(block)).collect()
     }
 
-    fn five(&self, block: &[u8]) -> Vec<u32> {
+    fn five(&self, block: &[u8]) -> Vec<i32> {
         let registers: Vec<(u8, u8)> = (0x0C..).zip(block.iter().copied()).collect();
         let mut chip = Chip::new(self.job.check, &registers);
         let mut feed = |asked: &Transfer| chip.field(asked);
@@ -168,7 +168,7 @@ where
         let mut device = BQ769x0::<5>::new(8, 5).expect("a device");
         let (gain, offset) = (self.device.adc_gain(), self.device.adc_offset());
         device.keep(true, gain, offset, MicroOhms(1), std::array::from_fn(|_| MilliVolts(0)));
-        device.cell_voltages(&mut bus).map_err(number).expect("a reading").iter().map(|cell| cell.0).collect()
+        device.cell_voltages(&mut bus).map_err(number).expect("a reading").iter().map(|cell| signed(*cell)).collect()
     }
 
     /// 4 in front.
@@ -180,10 +180,16 @@ where
     }
 }
 
+/// The crate's millivolts with their sign: the one place where the port's answer moves away from the crate's (request 2; docs/DIFFERENCES.md, D57).
+/// The bits are the crate's. All that is printed or compared of its voltages comes through here.
+pub fn signed(voltage: MilliVolts) -> i32 {
+    voltage.0 as i32
+}
+
 pub fn set_up(found: &CalculatedValues) -> String {
     let range = (found.ocdscd_range_used == OCDSCDRange::Upper) as u8;
     let (scd, ocd) = (found.scd_threshold.0, found.ocd_threshold.0);
-    format!("init range {range} scd {scd} ocd {ocd} uv {} ov {}", found.uv_threshold.0, found.ov_threshold.0)
+    format!("init range {range} scd {scd} ocd {ocd} uv {} ov {}", signed(found.uv_threshold), signed(found.ov_threshold))
 }
 
 /// The crate's errors by 01's numbers, with their figures.
@@ -195,8 +201,8 @@ pub fn number(error: Error) -> String {
         Error::Uninitialized => "4".to_string(),
         Error::VerifyError(register) => format!("5 {register}"),
         Error::OCDSCDRangeMismatch => "6".to_string(),
-        Error::UVThresholdUnobtainable(low, high) => format!("7 {} {}", low.0, high.0),
-        Error::OVThresholdUnobtainable(low, high) => format!("8 {} {}", low.0, high.0),
+        Error::UVThresholdUnobtainable(low, high) => format!("7 {} {}", signed(low), signed(high)),
+        Error::OVThresholdUnobtainable(low, high) => format!("8 {} {}", signed(low), signed(high)),
     }
 }
 

@@ -28,8 +28,9 @@ fn job(asked: &Asked) -> Option<Job> {
     matches!(job.calls[..], [(0x21, _)]).then_some(job)
 }
 
+/// A line's numbers as C's buffers have them: below zero in two's complement.
 fn numbers(words: &[&str]) -> Option<Vec<u32>> {
-    words.iter().map(|word| word.parse().ok()).collect()
+    words.iter().map(|word| word.parse::<i64>().ok().map(|number| number as u32)).collect()
 }
 
 /// The line of the last call's answer taken apart; one that is no answer as it is.

@@ -7,7 +7,7 @@ pub struct Kept {
     pub gain: u16,
     pub offset: i8,
     pub shunt: u32,
-    pub cells: [u32; 15],
+    pub cells: [i32; 15],
 }
 
 /// What field 1E gives.
@@ -57,7 +57,7 @@ fn parse_given(value: &[u8]) -> Option<Given> {
         gain: u16::from_be_bytes([value[1], value[2]]),
         offset: value[3] as i8,
         shunt: word(4),
-        cells: std::array::from_fn(|i| word(8 + 4 * i)),
+        cells: std::array::from_fn(|i| word(8 + 4 * i) as i32),
     };
     Some(Given { kept, log_size: word(68) as usize, tape_at: long(72), log_at: long(80) })
 }

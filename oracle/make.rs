@@ -93,7 +93,7 @@ fn given_job(dice: &mut Dice) -> Vec<u8> {
 
 /// A sound record: as new, calibrated, or set up.
 fn kept(dice: &mut Dice) -> Kept {
-    let cells = std::array::from_fn(|_| if dice.percent(50) { dice.any() as u32 } else { dice.pick(&[0, 1, 4000, u32::MAX]) });
+    let cells = std::array::from_fn(|_| if dice.percent(50) { dice.any() as i32 } else { dice.pick(&[0, 1, 4000, -1]) });
     let gain = if dice.percent(20) { dice.pick(&[365, 396]) } else { 365 + dice.below(32) as u16 };
     let offset = dice.byte() as i8;
     let shunt = match dice.below(10) {

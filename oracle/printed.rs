@@ -7,7 +7,7 @@ use crate::job::{Job, Kept};
 pub struct Lent {
     pub data: Vec<u8>,
     pub inputs: Vec<u8>,
-    pub list: Vec<u32>,
+    pub list: Vec<i32>,
 }
 
 impl Lent {
@@ -18,7 +18,7 @@ impl Lent {
             0x34 => (0, value[0], value[1]),
             _ => (0, 0, 0),
         };
-        Lent { data: vec![0xAA; data as usize], inputs: vec![255; inputs as usize], list: vec![u32::MAX; list as usize] }
+        Lent { data: vec![0xAA; data as usize], inputs: vec![255; inputs as usize], list: vec![i32::MAX; list as usize] }
     }
 
     /// The bytes after a read, and for staterun the lists after a cell call.

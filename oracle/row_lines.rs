@@ -3,7 +3,7 @@ use crate::bus::{field_of, Bus, Transfer};
 use crate::crates::chip::Chip;
 use crate::{Came, Line};
 use bq::*;
-use calls::{config, number};
+use calls::{config, number, signed};
 use crc_any::CRCu8;
 use std::panic::{catch_unwind, AssertUnwindSafe};
 use Came::{Is, NotRun};
@@ -57,8 +57,8 @@ where
         self.run(|device, bus| device.init(bus, &config(&value)))
     }
 
-    fn cells(&mut self) -> Vec<u32> {
-        self.run(|device, bus| device.cell_voltages(bus).expect("cells").iter().map(|cell| cell.0).collect())
+    fn cells(&mut self) -> Vec<i32> {
+        self.run(|device, bus| device.cell_voltages(bus).expect("cells").iter().map(|cell| signed(*cell)).collect())
     }
 
     fn current(&mut self) -> String {
@@ -81,14 +81,14 @@ fn readings(check: bool) -> Vec<Line> {
     let mut bench = Bench::<5>::new(check, 5, &[(0x51, 0xFF), (0x0D, 0x01)]);
     bench.init(EXAMPLE).expect("set up");
     let cells = bench.cells();
-    vec![row("reading 1, gain 365, offset -1", cells[0], 0), row("reading 0, same", cells[1], 4294967295u32)]
+    vec![row("reading 1, gain 365, offset -1", cells[0], 0), row("reading 0, same", cells[1], -1)]
 }
 
 /// The code in a register after setting up, and the UV reported.
-fn trip(check: bool, uv: u32, ov: u32, register: u8) -> (u8, u32) {
+fn trip(check: bool, uv: u32, ov: u32, register: u8) -> (u8, i32) {
     let mut bench = Bench::<5>::new(check, 5, &[]);
     let found = bench.init([1000, 50, 20, uv, ov]).expect("set up");
-    (bench.chip.registers[register as usize], found.uv_threshold.0)
+    (bench.chip.registers[register as usize], signed(found.uv_threshold))
 }
 
 fn trip_codes(check: bool) -> Vec<Line> {
@@ -204,7 +204,7 @@ fn functions(check: bool) -> Vec<Line> {
         row("D35 SCD step 200 mV: mV", SCDThreshold::_200mV as u32, 200),
         row("D35 OCD step 100 mV: mV", OCDThreshold::_100mV as u32, 100),
         line("D38 reading FFFF, gain 65535: mV", NotRun("AdcTransferFunction is private, and its gain 365 to 396"), 4294836),
-        line("D38 reading 0, gain 365, offset -1: mV with its sign", NotRun("millivolts are a u32"), -1),
+        line("D38 reading 0, gain 365, offset -1: mV", NotRun("AdcTransferFunction is private; by a cell this is `reading 0, same`"), -1),
         line("D39 CC_READY and OVERCURRENT in one set", NotRun("an operator of bitflags, which the stand-in does not have"), 0x81),
         row("D39 the set of bit 6", SysStat::from_bits(0x40).map_or("None".to_string(), |set| set.bits().to_string()), 0x40),
         row("D53 OV delay of 1 s: bits", OVDelay::_1s.bits(), 0x00),

@@ -112,7 +112,8 @@ static const struct field logged[FIELDS] = {
 };
 static const uint32_t accepted[5] = {0, 56, 22, 2797, 4201};
 /* readings 10000, 10001, 8192, 65535 and 0 at 365 microvolts a step */
-static const uint32_t millivolts[5] = {3650, 3650, 2990, 23920, 0};
+static const int32_t millivolts[5] = {3650, 3650, 2990, 23920, 0};
+static const uint8_t all_inputs[5] = {1, 2, 3, 4, 5};
 
 /* So many transfers made, of which the last may have faulted: what tape and log then hold. */
 static void transfers(struct call *c, size_t count) {
@@ -141,17 +142,16 @@ static void refused(struct call *c, uint8_t number, size_t count) {
 }
 
 /* A reading's cells: voltages in the list, and by the wiring their inputs beside them. */
-static void cells_read(struct call *c, enum reading reading, const uint8_t *inputs, const uint32_t *volts, size_t count) {
+static void cells_read(struct call *c, enum reading reading, const uint8_t *inputs, const int32_t *volts, size_t count) {
     c->inputs_used = reading == WIRED ? count : 0;
     c->list_used = reading == NONE ? 0 : 4 * count;
     memcpy(c->inputs_bytes, inputs, count);
     for (size_t i = 0; i < count; i++)
-        put(c->list_bytes + 4 * i, volts[i], 4);
+        put(c->list_bytes + 4 * i, (uint64_t)volts[i], 4);
 }
 
 /* The example as it stands, accepted. */
 static struct call example(const char *name, enum reading reading) {
-    static const uint8_t inputs[5] = {1, 2, 3, 4, 5};
     struct call c;
     uint8_t bytes[MOST];
     size_t count = reading == NONE ? 7 : 8;
@@ -165,7 +165,7 @@ static struct call example(const char *name, enum reading reading) {
     lend(&c.out, NULL, BQ769X0_OUT);
     transfers(&c, count);
     memcpy(c.five, accepted, sizeof accepted);
-    cells_read(&c, reading, inputs, millivolts, 5);
+    cells_read(&c, reading, all_inputs, millivolts, 5);
     return c;
 }
 
@@ -174,7 +174,7 @@ static void seven_cells(void) {
     static const struct field reply = {23, {1, 0, 20, 0x27, 0x10, 0x27, 0x11, 0x27, 0x74, 0, 0, 0x29, 0x68,
                                             0x2A, 0xF8, 0x1F, 0x40, 0, 0, 0, 0, 0x2E, 0x18}};
     static const uint8_t inputs[7] = {1, 2, 3, 5, 6, 7, 10};
-    static const uint32_t volts[7] = {3650, 3650, 3686, 3869, 4015, 2920, 4307};
+    static const int32_t volts[7] = {3650, 3650, 3686, 3869, 4015, 2920, 4307};
     struct call c = example("seven cells", WIRED);
     size_t before = c.tape.len - tape[7].len;
     at(&c.job)[3] = 10, at(&c.job)[4] = 7;
@@ -189,6 +189,19 @@ static void seven_cells(void) {
     c.list.len = 28, c.inputs.len = 6;
     refused(&c, BQ769X0_NO_ROOM, 7);
     made(&c, WIRED, 0);
+}
+
+/* Offset -1: every voltage is a millivolt less, and that of reading 0 below zero. */
+static void below_zero(enum reading reading) {
+    static const int32_t volts[5] = {3649, 3649, 2989, 23919, -1};
+    static const uint8_t last[4] = {0xFF, 0xFF, 0xFF, 0xFF};
+    struct call c = example("a cell below zero", reading);
+    at(&c.tape)[4] = 0xFF;
+    c.five[3] = 2796, c.five[4] = 4200;
+    cells_read(&c, reading, all_inputs, volts, 5);
+    made(&c, reading, 0);
+    must(memcmp(at(&c.list) + 16, last, sizeof last) == 0, &c, "the last cell");
+    must(bq769x0_millivolts(at(&c.list), 4) == -1, &c, "the last cell's millivolts");
 }
 
 /* Every length from 0 up to one short, of the job, the tape and the log; with no pointer where it is 0 too. */
@@ -281,13 +294,23 @@ static void cells_on(void) {
                 on_input(&c, x, cells, input);
 }
 
-/* A refusal's figures: OV 5000 mV is out of reach, and 08 reads back otherwise. */
+/* A refusal's figures: OV and UV out of reach above, at 0 and below zero, and 08 that reads back otherwise. */
 static void figures(void) {
-    struct call c = example("an OV out of reach", NONE);
-    put(at(&c.job) + 26, 5000, 4);
-    refused(&c, BQ769X0_OV_UNOBTAINABLE, 2);
-    c.five[0] = 2, c.five[1] = 2993, c.five[2] = 4482;
-    made(&c, NONE, 0);
+    static const int32_t asked[] = {5000, INT32_MAX, 0, -1, INT32_MIN};
+    struct call c;
+    for (size_t i = 0; i < sizeof asked / sizeof asked[0]; i++) {
+        c = example("an OV out of reach", NONE);
+        put(at(&c.job) + 26, (uint64_t)asked[i], 4);
+        refused(&c, BQ769X0_OV_UNOBTAINABLE, 2);
+        c.five[0] = 2, c.five[1] = 2993, c.five[2] = 4482;
+        made(&c, NONE, 0);
+        c = example("a UV out of reach", NONE);
+        put(at(&c.job) + 22, (uint64_t)asked[i], 4);
+        refused(&c, BQ769X0_UV_UNOBTAINABLE, 2);
+        c.five[0] = 2, c.five[1] = 1495, c.five[2] = 2984;
+        made(&c, NONE, 0);
+        must(bq769x0_i32(at(&c.out) + BQ769X0_FIGURE_2) == 2984, &c, "the highest UV");
+    }
     c = example("another byte in 08", NONE);
     at(&c.tape)[5 + 4 + 3 + 3 + 2] ^= 1;
     refused(&c, BQ769X0_VERIFY_ERROR, 4);
@@ -325,6 +348,7 @@ static void readers(void) {
     must(bq769x0_u32(bytes) == 0x01234567 && bq769x0_u64(bytes) == 0x0123456789ABCDEF, &none, "a number");
     must(bq769x0_millivolts(list, 0) == 3001 && bq769x0_millivolts(list, 1) == -1, &none, "a cell's millivolts");
     must(bq769x0_millivolts(list, 2) == INT32_MAX && bq769x0_millivolts(list, 3) == INT32_MIN, &none, "the farthest millivolts");
+    must(bq769x0_i32(list) == 3001 && bq769x0_i32(list + 4) == -1, &none, "the millivolts at a place");
     must(strcmp(bq769x0_name(BQ769X0_OK), "Ok") == 0, &none, "the name of 0");
     must(strcmp(bq769x0_name(BQ769X0_BAD_TAPE), "BadTape") == 0, &none, "the name of 15");
     for (int a = 0; a <= UINT8_MAX; a++) {
@@ -344,6 +368,8 @@ int main(void) {
     }
     short_lists(CELLS);
     short_lists(WIRED);
+    below_zero(CELLS);
+    below_zero(WIRED);
     seven_cells();
     figures();
     cells_on();

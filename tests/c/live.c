@@ -63,7 +63,11 @@ static int chip_read(void *context, uint8_t address, uint8_t reg, uint8_t *bytes
     return fails;
 }
 
-/* Gain 380, offset -20, 05 with two bits that must stay, and inputs from 8000 up. */
+/* What an input reads: from 8000 up, the third 0; and its millivolts at gain 380 and offset -20, which are -20 of the third. */
+static int reading_of(int input) { return input == 2 ? 0 : 8000 + 177 * input; }
+static int32_t volts_of(int input) { return (reading_of(input) * 380 - 20 * 1000) / 1000; }
+
+/* That gain and offset, those readings, and 05 with two bits that must stay. */
 static struct chip chip_of(int check) {
     struct chip chip;
     memset(&chip, 0, sizeof chip);
@@ -73,8 +77,8 @@ static struct chip chip_of(int check) {
     chip.regs[0x59] = 0xE0;
     chip.regs[0x05] = 0x03;
     for (int i = 0; i < FULL; i++) {
-        chip.regs[0x0C + 2 * i] = (uint8_t)((8000 + 177 * i) / 256);
-        chip.regs[0x0D + 2 * i] = (uint8_t)((8000 + 177 * i) % 256);
+        chip.regs[0x0C + 2 * i] = (uint8_t)(reading_of(i) / 256);
+        chip.regs[0x0D + 2 * i] = (uint8_t)(reading_of(i) % 256);
     }
     return chip;
 }
@@ -136,7 +140,7 @@ static void call(int x, int check, int reading, unsigned fails_at, size_t after)
         must(made.number == BQ769X0_OK && chip.made == transfers, "a call without a fault");
         must(memcmp(chip.regs + 6, six, sizeof six) == 0 && chip.regs[5] == 0x43, "the chip after an init");
         for (int i = 0; reading == 1 && i < x; i++)
-            must(made.inputs[i] == i + 1 && bq769x0_millivolts(made.list, (size_t)i) == (8000 + 177 * i) * 380 / 1000 - 20, "a cell");
+            must(made.inputs[i] == i + 1 && bq769x0_millivolts(made.list, (size_t)i) == volts_of(i), "a cell");
     } else {
         must((made.number == BQ769X0_I2C_ERROR || made.number == BQ769X0_CRC_MISMATCH) && chip.made == fails_at, "a call with a fault");
     }

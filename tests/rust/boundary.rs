@@ -47,6 +47,11 @@ mod bq769x0 {
     pub fn cell_on(x: u8, cells: u8, input: u8, cell: &mut [u8; 1]) -> u8 {
         unsafe { linked::bq769x0_cell_on(x, cells, input, cell.as_mut_ptr()) }
     }
+
+    /// The millivolts of a list's first cells, with their signs.
+    pub fn millivolts(list: &[u8], cells: usize) -> Vec<i32> {
+        list.chunks_exact(4).take(cells).map(|four| i32::from_be_bytes(four.try_into().unwrap())).collect()
+    }
 }
 
 /// Which of the three functions: without a reading, with one by the crate's list, with one by the wiring.
@@ -76,7 +81,7 @@ const TRANSFERS: [(&[u8], &[u8]); 8] = [
     (&[1, 0, 10, 0x27, 0x10, 0x27, 0x11, 0x20, 0, 0xFF, 0xFF, 0, 0], &[0x12, 0, 4, 8, 0x0C, 0, 10]),
 ];
 const ACCEPTED: [u32; 5] = [0, 56, 22, 2797, 4201];
-const MILLIVOLTS: [u32; 5] = [3650, 3650, 2990, 23920, 0];
+const MILLIVOLTS: [i32; 5] = [3650, 3650, 2990, 23920, 0];
 
 fn tape(count: usize) -> Vec<u8> {
     TRANSFERS[..count].iter().flat_map(|t| t.0).copied().collect()
@@ -93,7 +98,7 @@ struct Left {
     log: Vec<u8>,
     five: [u32; 5],
     inputs: Vec<u8>,
-    list: Vec<u8>,
+    list: Vec<i32>,
 }
 
 fn refused(number: u8, tape_used: usize, transfers: usize) -> Left {
@@ -108,7 +113,7 @@ fn count(reading: Reading) -> usize {
 fn accepted(reading: Reading) -> Left {
     let all = count(reading);
     let inputs = if reading == Wired { vec![1, 2, 3, 4, 5] } else { vec![] };
-    let list = if reading == None { vec![] } else { MILLIVOLTS.iter().flat_map(|mv| mv.to_be_bytes()).collect() };
+    let list = if reading == None { vec![] } else { MILLIVOLTS.to_vec() };
     Left { number: 0, tape_used: tape(all).len(), log: log(all), five: ACCEPTED, inputs, list }
 }
 
@@ -137,7 +142,9 @@ fn check(name: &str, reading: Reading, job: &[u8], tape: &[u8], room: [usize; 3]
     assert_eq!(out.to_vec(), expected, "{name}: out");
     assert_eq!(log, over(&left.log, room[0]), "{name}: the log");
     assert_eq!(inputs, over(&left.inputs, room[1]), "{name}: the inputs");
-    assert_eq!(list, over(&left.list, room[2]), "{name}: the list");
+    assert_eq!(bq769x0::millivolts(&list, left.list.len()), left.list, "{name}: the millivolts");
+    let cells: Vec<u8> = left.list.iter().flat_map(|mv| mv.to_be_bytes()).collect();
+    assert_eq!(list, over(&cells, room[2]), "{name}: the list");
     1
 }
 
@@ -188,9 +195,16 @@ fn short_lists() -> u32 {
 fn four_cells() -> u32 {
     let mut job = JOB;
     job[4] = 4;
-    let volts = [0, 1, 2, 4].map(|place| MILLIVOLTS[place]);
-    let list = volts.iter().flat_map(|mv| mv.to_be_bytes()).collect();
+    let list = [0, 1, 2, 4].map(|place| MILLIVOLTS[place]).to_vec();
     check("four cells", Wired, &job, &tape(8), ROOM, Left { inputs: vec![1, 2, 3, 5], list, ..accepted(Wired) })
+}
+
+/// Offset -1: every voltage is a millivolt less, and that of reading 0 below zero.
+fn below_zero(reading: Reading) -> u32 {
+    let mut tape = tape(8);
+    tape[4] = 0xFF;
+    let list = vec![3649, 3649, 2989, 23919, -1];
+    check("a cell below zero", reading, &JOB, &tape, ROOM, Left { five: [0, 56, 22, 2796, 4200], list, ..accepted(reading) })
 }
 
 /// The cell on each input of a pack, and what the packs that are none answer.
@@ -207,6 +221,6 @@ fn cells_on() -> u32 {
 }
 
 fn main() {
-    let run = every(None) + every(Cells) + every(Wired) + short_lists() + four_cells() + cells_on();
+    let run = every(None) + every(Cells) + every(Wired) + short_lists() + four_cells() + below_zero(Cells) + below_zero(Wired) + cells_on();
     println!("rust: {run} calls as they should be");
 }

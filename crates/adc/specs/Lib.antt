@@ -1,3 +1,4 @@
 pub mod Registers
 pub mod Conversion
 pub mod Trips
+pub mod Crate

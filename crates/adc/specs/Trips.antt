@@ -3,7 +3,7 @@
 use Prim.Native.Nat.{ℕ, _+_, _*_}
 use lib.Dec.{eqb}
 use lib.IntN.{ℤ, pos, _-ℤ_, _*ℤ_}
-use Rattle.numbers.specs.Numbers.{_÷↓_, _%↓_, asU32}
+use Rattle.numbers.specs.Numbers.{_÷↓_, _%↓_}
 use Rattle.refusals.specs.Refusal.{Answer, value, refused, refusedIf, asRefusal}
 use Rattle.adc.specs.Conversion.{millivolts}
 use Rattle.adc.specs.declared.transfer.Limits.{Limits}
@@ -18,19 +18,19 @@ ovTrip code = 0b10_0000_0000_1000 + 16 * code
 abbrev pub uvTrip : ℕ → ℕ
 uvTrip code = 0b01_0000_0000_0000 + 16 * code
 
--- the voltages in mV at two readings, as the answer's u32
+-- the voltages in mV at two readings
 abbrev pub limits : ℕ → ℤ → ℕ → ℕ → Limits
 limits gain offset low high = record {
-  low = record { 0 = asU32 (millivolts gain offset low) };
-  high = record { 0 = asU32 (millivolts gain offset high) };
+  low = record { 0 = millivolts gain offset low };
+  high = record { 0 = millivolts gain offset high };
 }
 
 -- the reading of an asked voltage in mV, rounded down
-abbrev pub readingOf : ℕ → ℤ → ℕ → ℤ
-readingOf gain offset asked = ((pos asked -ℤ offset) *ℤ pos 1000) ÷↓ gain
+abbrev pub readingOf : ℕ → ℤ → ℤ → ℤ
+readingOf gain offset asked = ((asked -ℤ offset) *ℤ pos 1000) ÷↓ gain
 
 -- the same, refused with 9 at a gain of 0, which is no device's
-abbrev pub askedReading : ℕ → ℤ → ℕ → Answer ℤ
+abbrev pub askedReading : ℕ → ℤ → ℤ → Answer ℤ
 askedReading gain offset asked = refusedIf (eqb gain 0) 9 (value (readingOf gain offset asked))
 
 -- the code of a reading: a sixteenth of it, rounded down, its low eight bits

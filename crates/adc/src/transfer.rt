@@ -2,7 +2,7 @@
 ghost use mathlib.Core.Path.{_≡_};
 ghost use Prim.Native.Nat.{_≤_, _*_};
 ghost use lib.IntN.{pos, _+ℤ_, _*ℤ_};
-ghost use Rattle.numbers.specs.Numbers.{_÷_, asU32};
+ghost use Rattle.numbers.specs.Numbers.{_÷_};
 ghost use Rattle.adc.specs.Registers.{calibration};
 ghost use Rattle.adc.specs.Conversion.{millivolts, packMillivolts};
 ghost use Rattle.adc.specs.Trips.{ovTrip, uvTrip, limits, askedReading, asAsked};
@@ -37,36 +37,23 @@ impl AdcTransferFunction {
         }
     }
 
-    // The exact quotient; `apply` hands it on as the crate does, below zero as 2^32 less its size.
-    pub fn millivolts(self, adc_reading: u16) -> i32
-        ensures { λ r. ⌜ r ≡ millivolts (self .gain) (self .offset) «adc_reading» ⌝ }
+    pub fn apply(self, adc_reading: u16) -> MilliVolts
+        ensures { λ r. ⌜ r .0 ≡ millivolts (self .gain) (self .offset) «adc_reading» ⌝ }
     {
         let offset = self.offset;
-        per_thousand(adc_reading as u64 * self.gain as u64, offset, 1000)
-    }
-
-    pub fn apply(self, adc_reading: u16) -> MilliVolts
-        ensures { λ r. ⌜ r .0 ≡ asU32 (millivolts (self .gain) (self .offset) «adc_reading») ⌝ }
-    {
-        MilliVolts(numbers::as_u32(self.millivolts(adc_reading)))
+        MilliVolts(per_thousand(adc_reading as u64 * self.gain as u64, offset, 1000))
     }
 
     // The pack's voltage, with the offset taken `offsets` times.
-    pub fn pack_millivolts(self, offsets: u8, adc_reading: u16) -> i32
-        ensures { λ r. ⌜ r ≡ packMillivolts offsets (self .gain) (self .offset) «adc_reading» ⌝ }
+    pub fn pack_voltage(self, offsets: u8, adc_reading: u16) -> MilliVolts
+        ensures { λ r. ⌜ r .0 ≡ packMillivolts offsets (self .gain) (self .offset) «adc_reading» ⌝ }
     {
         let offset = self.offset;
-        per_thousand(
+        MilliVolts(per_thousand(
             4 * self.gain as u64 * adc_reading as u64,
             offset,
             offsets as u32 * 1000,
-        )
-    }
-
-    pub fn pack_voltage(self, offsets: u8, adc_reading: u16) -> MilliVolts
-        ensures { λ r. ⌜ r .0 ≡ asU32 (packMillivolts offsets (self .gain) (self .offset) «adc_reading») ⌝ }
-    {
-        MilliVolts(numbers::as_u32(self.pack_millivolts(offsets, adc_reading)))
+        ))
     }
 
     pub fn ov_voltage_range(self) -> Limits

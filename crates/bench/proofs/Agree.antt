@@ -10,13 +10,13 @@ told-agree x n n′ out out′ e e′ =
     let same = e ∙ sym e′ in
     (ap (λ (t : Told). t .number) same, ap (λ (t : Told). t .out) same)
 
-pub given-agree : (x : Given) (n n′ : ℕ) (out out′ log log′ lent lent′ : List ℕ)
+pub given-agree : {E : Type 0} (x : Given E) (n n′ : ℕ) (out out′ log log′ : List ℕ) (lent lent′ : List E)
     → given n out log lent ≡ x → given n′ out′ log′ lent′ ≡ x
     → (n ≡ n′) × (out ≡ out′) × (log ≡ log′) × (lent ≡ lent′)
-given-agree x n n′ out out′ log log′ lent lent′ e e′ =
+given-agree {E} x n n′ out out′ log log′ lent lent′ e e′ =
     let same = e ∙ sym e′ in (
-      ap (λ (g : Given). g .told .number) same,
-      ap (λ (g : Given). g .told .out) same,
-      ap (λ (g : Given). g .log) same,
-      ap (λ (g : Given). g .lent) same,
+      ap (λ (g : Given E). g .told .number) same,
+      ap (λ (g : Given E). g .told .out) same,
+      ap (λ (g : Given E). g .log) same,
+      ap (λ (g : Given E). g .lent) same,
     )

@@ -59,21 +59,21 @@ abbrev pub told : {A : Type 0} → (A → ℕ) → Cursor → Answer A → Told
 told inNumber at answer = toldBy (numberOf answer) (outOf at (valueOf inNumber answer))
 
 -- ---- and what it is given with that: the log, and what it lent
-pub record Given : Type 0 where
+pub record Given (E : Type 0) : Type 0 where
   pub told : Told
   pub log : List ℕ
-  pub lent : List ℕ
+  pub lent : List E
 
-abbrev pub given : ℕ → List ℕ → List ℕ → List ℕ → Given
+abbrev pub given : {E : Type 0} → ℕ → List ℕ → List ℕ → List E → Given E
 given number out log lent = record { told = toldBy number out; log = log; lent = lent }
 
-abbrev pub givenOf : {A : Type 0} → (A → ℕ) → Answer A → Bus → List ℕ → Given
+abbrev pub givenOf : {A E : Type 0} → (A → ℕ) → Answer A → Bus → List E → Given E
 givenOf inNumber answer b lent = record { told = told inNumber (b .at) answer; log = b .log; lent = lent }
 
 -- an answer that is no more than its value, where nothing was lent but tape and log
-abbrev pub asTold : {A : Type 0} → (A → ℕ) → Ran (Answer A) → Given
+abbrev pub asTold : {A : Type 0} → (A → ℕ) → Ran (Answer A) → Given ℕ
 asTold inNumber r = givenOf inNumber (r .answer) (r .bus) []
 
 -- with the bytes that a read filled
-abbrev pub asRead : Ran Read → Given
+abbrev pub asRead : Ran Read → Given ℕ
 asRead r = givenOf nothing (r .answer .answer) (r .bus) (r .answer .bytes)

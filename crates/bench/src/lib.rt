@@ -8,7 +8,8 @@ ghost use Rattle.bus.specs.Lent.{lentBus};
 ghost use Rattle.bus.specs.Raw.{readRaw, writeRaw};
 ghost use Rattle.measuring.specs.Pack.{voltage};
 ghost use Rattle.measuring.specs.Temperature.{temperature};
-ghost use Rattle.bench.specs.Calls.{linkBy, recordBy, nothing, itself, sensed};
+ghost use Rattle.numbers.specs.Numbers.{asU32};
+ghost use Rattle.bench.specs.Calls.{linkBy, recordBy, nothing, sensed};
 ghost use Rattle.bench.specs.Calls.{given, asRead, asTold};
 use adc::transfer::AdcTransferFunction;
 use bq769x0::BQ769x0;
@@ -100,7 +101,7 @@ pub extern "C" fn bench_voltage(
     out: &mut [usize; 3],
 ) -> u8
     ensures { λ r. ⌜ given r (now (out .exit)) (now (log .exit)) []
-        ≡ asTold itself (onTape (voltage (recordBy x «cell_count» address check gain b51 shunt)) (lentBus tape log start)) ⌝ }
+        ≡ asTold asU32 (onTape (voltage (recordBy x «cell_count» address check gain b51 shunt)) (lentBus tape log start)) ⌝ }
 {
     let device = record_by(x, cell_count, address, check, gain, b51, shunt);
     let read = pack::voltage(device, tape, log, Cursor { tape: 0, log: 0 });

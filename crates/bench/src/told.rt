@@ -5,7 +5,7 @@ ghost use Rattle.numbers.specs.Numbers.{asU32};
 ghost use Rattle.bus.specs.Raw.{asRaw};
 ghost use Rattle.measuring.specs.Pack.{asVoltage};
 ghost use Rattle.measuring.specs.Temperature.{asTemperature};
-ghost use Rattle.bench.specs.Calls.{outOf, toldBy, told, valueOf, nothing, itself, sensed};
+ghost use Rattle.bench.specs.Calls.{outOf, toldBy, told, valueOf, nothing, sensed};
 use adc::counter::CurrentAnswer;
 use bus::Cursor;
 use bus::link::RawAnswer;
@@ -13,6 +13,7 @@ use measuring::degrees::Temperature;
 use measuring::pack::VoltageAnswer;
 use measuring::temperature::TemperatureAnswer;
 use units::MilliAmperes;
+use units::MilliVolts;
 
 pub fn put(out: &mut [usize; 3], at: Cursor, value: usize)
     ensures { λ _. ⌜ now (out .exit) ≡ outOf at value ⌝ }
@@ -56,7 +57,7 @@ fn milliamperes(current: MilliAmperes) -> usize
 }
 
 pub fn volts(answer: VoltageAnswer, at: Cursor, out: &mut [usize; 3]) -> u8
-    ensures { λ r. ⌜ toldBy r (now (out .exit)) ≡ told itself at (asVoltage answer) ⌝ }
+    ensures { λ r. ⌜ toldBy r (now (out .exit)) ≡ told asU32 at (asVoltage answer) ⌝ }
 {
     put(out, at, volts_of(answer));
     match answer {
@@ -66,12 +67,18 @@ pub fn volts(answer: VoltageAnswer, at: Cursor, out: &mut [usize; 3]) -> u8
 }
 
 fn volts_of(answer: VoltageAnswer) -> usize
-    ensures { λ r. ⌜ r ≡ valueOf itself (asVoltage answer) ⌝ }
+    ensures { λ r. ⌜ r ≡ valueOf asU32 (asVoltage answer) ⌝ }
 {
     match answer {
-        VoltageAnswer::Volts(voltage) => voltage.0 as usize,
+        VoltageAnswer::Volts(voltage) => millivolts(voltage),
         VoltageAnswer::Refused(_) => 0,
     }
+}
+
+fn millivolts(voltage: MilliVolts) -> usize
+    ensures { λ r. ⌜ r ≡ asU32 (voltage .0) ⌝ }
+{
+    numbers::as_u32(voltage.0) as usize
 }
 
 pub fn sensed(answer: TemperatureAnswer, at: Cursor, out: &mut [usize; 3]) -> u8

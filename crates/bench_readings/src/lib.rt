@@ -24,7 +24,7 @@ pub extern "C" fn bench_cells(
     gain: u16,
     b51: u8,
     shunt: u32,
-    list: &mut [u32],
+    list: &mut [i32],
     tape: &[u8],
     log: &mut [u8],
     out: &mut [usize; 3],

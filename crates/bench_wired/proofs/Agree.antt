@@ -3,10 +3,11 @@
 use mathlib.Core.Path.{_≡_, sym, ap, _∙_}
 use Prim.Native.Nat.{ℕ}
 use mathlib.Core.List.{List}
+use lib.IntN.{ℤ}
 use Rattle.bench.proofs.Agree.{given-agree}
 use Rattle.bench_wired.specs.Both.{GivenBoth, shownBy}
 
-pub shown-agree : (x : GivenBoth) (n n′ : ℕ) (out out′ log log′ inputs inputs′ list list′ : List ℕ)
+pub shown-agree : (x : GivenBoth) (n n′ : ℕ) (out out′ log log′ inputs inputs′ : List ℕ) (list list′ : List ℤ)
     → shownBy n out log inputs list ≡ x
     → shownBy n′ out′ log′ inputs′ list′ ≡ x
     → ((n ≡ n′) × (out ≡ out′) × (log ≡ log′) × (list ≡ list′)) × (inputs ≡ inputs′)

@@ -21,7 +21,7 @@ pub extern "C" fn bench_wired(
     b51: u8,
     shunt: u32,
     inputs: &mut [u8],
-    list: &mut [u32],
+    list: &mut [i32],
     tape: &[u8],
     log: &mut [u8],
     out: &mut [usize; 3],

@@ -1,14 +1,19 @@
--- A sound record's count is one that its device allows, so that it has at most 15 inputs and at most 15 cells.
+-- A sound record's count is one that its device allows, so that it has at most 15 inputs and at most 15 cells; its gain is one that registers
+-- give, or none.
 -- Assumes nothing.
 use mathlib.Core.Path.{_≡_, sym, ap, subst}
-use mathlib.Core.Bool.{Bool, true, false, not}
+use mathlib.Core.Bool.{Bool, true, false, not, _&&_}
+use mathlib.Core.Logic.{⊎-elim}
 use Prim.Native.Nat.{_≤_}
-use lib.Dec.{T, ltb}
+use native.Mathlib.Omega.{arith}
+use lib.Dec.{T, eqb, ltb, leb, eqb→eq, leb→le}
+use mir.Facts.{or-yes}
+use Rattle.laws.proofs.Tests.{both-left, both-right}
 use Rattle.refusals.specs.Refusal.{Answer, value, refusedIf}
 use Rattle.sizes.specs.Sizes.{isSize, isCount}
 use Rattle.sizes.proofs.Sizes.{at-most-15}
 use Rattle.bus.specs.Raw.{Done}
-use Rattle.bq769x0.specs.Record.{deviceAllowed, accepts, isSound}
+use Rattle.bq769x0.specs.Record.{deviceAllowed, accepts, isZero, isSound}
 use Rattle.bq769x0.specs.declared.BQ769x0.{BQ769x0}
 use Rattle.bq769x0.proofs.Keeps.{decides}
 
@@ -29,3 +34,12 @@ sound-pack d e =
 
 pub sound-sizes : (d : BQ769x0) → isSound d ≡ true → (d .link .x ≤ 15) × (d .«cell_count» ≤ 15)
 sound-sizes d e = at-most-15 (d .link .x) (d .«cell_count») (sound-pack d e)
+
+pub sound-gain : (d : BQ769x0) → isSound d ≡ true → d .adc .gain ≤ 396
+sound-gain d e =
+    let gain = d .adc .gain in
+    let none = isZero (d .adc .offset) in
+    ⊎-elim
+    (λ (t : T (leb 365 gain && leb gain 396)). leb→le gain 396 (both-right (leb 365 gain) (leb gain 396) t))
+    (λ (t : T (eqb gain 0 && none)). omega (arith, eqb→eq gain 0 (both-left (eqb gain 0) none t)))
+    (or-yes (leb 365 gain && leb gain 396) (eqb gain 0 && none) (rw (decides d e .calibrated) tt))

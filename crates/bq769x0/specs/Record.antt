@@ -27,7 +27,7 @@ deviceAllowed x address n = ofPack x n (refusedIf (ltb 127 address) 11 (value tt
 
 -- nothing read yet
 abbrev pub unread : Readings
-unread = record { cells = replicate 15 (record { 0 = 0 }) }
+unread = record { cells = replicate 15 (record { 0 = pos 0 }) }
 
 abbrev pub ofParts : Link → ℕ → AdcTransferFunction → MicroOhms → Bool → BQ769x0
 ofParts link n adc shunt mark = record {

@@ -42,10 +42,13 @@ pub(crate) enum Told {
     CellOn(u8),
 }
 
+// What a lent list of millivolts is full of: no reading gives it.
+const UNREAD: i32 = 2_147_483_647;
+
 // What is lent to a call, as far as its value says.
 pub(crate) struct Lent {
     pub inputs: [u8; 255],
-    pub list: [u32; 255],
+    pub list: [i32; 255],
     pub data: [u8; 512],
 }
 
@@ -62,7 +65,7 @@ impl Lent {
     pub(crate) fn fresh() -> Lent {
         Lent {
             inputs: [255u8; 255],
-            list: [4_294_967_295u32; 255],
+            list: [UNREAD; 255],
             data: [0xAAu8; 512],
         }
     }
@@ -143,7 +146,7 @@ fn cells(value: &[u8], device: BQ769x0, tape: &[u8], log: &mut [u8], at: Cursor)
         return not_made(device, at);
     }
     let n = size(value[0]);
-    let mut list = [4_294_967_295u32; 255];
+    let mut list = [UNREAD; 255];
     let read = crate_list::cell_voltages(device, &mut list[..n], tape, log, at);
     let answer = read.answer;
     let device = read.device;
@@ -166,7 +169,7 @@ fn wired(value: &[u8], device: BQ769x0, tape: &[u8], log: &mut [u8], at: Cursor)
     let m = size(value[0]);
     let n = size(value[1]);
     let mut inputs = [255u8; 255];
-    let mut list = [4_294_967_295u32; 255];
+    let mut list = [UNREAD; 255];
     let read = wired::wired(device, &mut inputs[..m], &mut list[..n], tape, log, at);
     let answer = read.answer;
     let device = read.device;

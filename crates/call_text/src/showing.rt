@@ -14,7 +14,7 @@ pub(crate) fn show(told: Told, lent: Lent, count: usize) {
         Told::Cells => cells(lent, count),
         Told::Wired => wired(lent, count),
         Told::Current(current) => lines::signed_number(b"current", current.0),
-        Told::Voltage(voltage) => lines::number(b"voltage", voltage.0 as u64),
+        Told::Voltage(voltage) => lines::signed_number(b"voltage", voltage.0),
         Told::Temperature(read) => degrees(read),
         Told::Balancing(cells) => lines::number(b"balancing", cells as u64),
         Told::Status(stat) => lines::number(b"status", stat.bits as u64),
@@ -26,7 +26,7 @@ pub(crate) fn show(told: Told, lent: Lent, count: usize) {
 
 fn cells(lent: Lent, count: usize) {
     let list = lent.list;
-    lines::numbers(b"cells", &list, count);
+    lines::signed_numbers(b"cells", &list, count);
 }
 
 fn wired(lent: Lent, count: usize) {
@@ -73,7 +73,7 @@ fn room(value: &[u8], i: usize) -> usize {
 
 fn list(lent: Lent, value: &[u8], i: usize) {
     let list = lent.list;
-    lines::numbers(b"list", &list, room(value, i));
+    lines::signed_numbers(b"list", &list, room(value, i));
 }
 
 fn inputs(lent: Lent, value: &[u8]) {

@@ -47,7 +47,7 @@ fn cells(cells: [MilliVolts; 15]) {
     let mut i = 0;
     while i < 15 {
         let cell = cells[i];
-        text::number(cell.0 as u64);
+        text::signed_number(cell.0);
         i += 1;
     }
 }

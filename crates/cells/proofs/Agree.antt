@@ -4,6 +4,7 @@
 use mathlib.Core.Path.{_≡_, sym, ap, _∙_}
 use Prim.Native.Nat.{ℕ}
 use mathlib.Core.List.{List}
+use lib.IntN.{ℤ}
 use Rattle.bus.specs.Transfers.{Bus}
 use Rattle.bus.specs.Programs.{Prog, Ran, ran, onTape}
 use Rattle.bus.specs.Raw.{asRaw}
@@ -23,7 +24,7 @@ left-agree r r′ told devices places =
     λ i. record { answer = answers i; device = devices i; at = places i }
 
 -- `cell_voltages`
-pub cells-agree : (p : Prog Filled) (b : Bus) (r r′ : Cells) (list list′ log log′ : List ℕ)
+pub cells-agree : (p : Prog Filled) (b : Bus) (r r′ : Cells) (list list′ : List ℤ) (log log′ : List ℕ)
     → ran (filled (asRaw (r .answer)) (r .device) list) (b .tape) log (r .at) ≡ onTape p b
     → ran (filled (asRaw (r′ .answer)) (r′ .device) list′) (b .tape) log′ (r′ .at) ≡ onTape p b
     → (r ≡ r′) × (list ≡ list′) × (log ≡ log′)
@@ -38,7 +39,7 @@ cells-agree p b r r′ list list′ log log′ e e′ =
     )
 
 -- `wired`
-pub wired-agree : (p : Prog Shown) (b : Bus) (r r′ : Cells) (inputs inputs′ list list′ log log′ : List ℕ)
+pub wired-agree : (p : Prog Shown) (b : Bus) (r r′ : Cells) (inputs inputs′ : List ℕ) (list list′ : List ℤ) (log log′ : List ℕ)
     → ran (shown (asRaw (r .answer)) (r .device) inputs list) (b .tape) log (r .at) ≡ onTape p b
     → ran (shown (asRaw (r′ .answer)) (r′ .device) inputs′ list′) (b .tape) log′ (r′ .at) ≡ onTape p b
     → (r ≡ r′) × (inputs ≡ inputs′) × (list ≡ list′) × (log ≡ log′)
@@ -54,7 +55,7 @@ wired-agree p b r r′ inputs inputs′ list list′ log log′ e e′ =
     )
 
 -- `cells_of`: the part that it hands back is determined in its numbers, and so in its length, and in its place
-pub part-agree : {P : Type 0} (start : P) (part : List ℕ) (held held′ : List ℕ) (ptr ptr′ : P)
+pub part-agree : {P : Type 0} (start : P) (part held held′ : List ℤ) (ptr ptr′ : P)
     → (held ≡ part) × (ptr ≡ start)
     → (held′ ≡ part) × (ptr′ ≡ start)
     → (held ≡ held′) × (ptr ≡ ptr′)

@@ -3,11 +3,11 @@
 -- Assumes nothing.
 use mathlib.Core.Path.{_≡_, refl, sym, ap, subst⁻¹, _∙_}
 use mathlib.Core.Bool.{Bool, true, false, _&&_, _||_}
-use mathlib.Core.List.{List, [], _∷_, _++_, map}
+use mathlib.Core.List.{List, [], _∷_, _++_, map, map-map}
 use Prim.Native.Nat.{ℕ, zero, suc, _-_, _*_, _≤_, _<_}
 use native.Mathlib.Omega.{arith}
 use lib.Dec.{T, eqb, leb, eqb→eq, leb→le}
-use lib.IntN.{ℤ, pos}
+use lib.IntN.{ℤ, pos, natAbs}
 use lib.Seq.{length-take-le}
 use lib.ListN.{length, take, drop, getD, length-map, length-append, length-drop, List·getD-append, List·getD-map}
 use borrow.Author.Tests.{eq-eqb}
@@ -24,16 +24,15 @@ use Rattle.bus.specs.declared.link.RawAnswer.the-variants as R
 use Rattle.bus.proofs.Sized.{bytes-size}
 use Rattle.bq769x0.specs.declared.BQ769x0.{BQ769x0}
 use Rattle.laws.specs.Over.{_over_}
+use Rattle.moves.specs.Moves.{moves, inTurn, names, inputsOf}
 use Rattle.procedure.specs.Inputs.{converted, asCell, asCells}
-use Rattle.moves.specs.Moves.{volts, firstCells}
-use Rattle.procedure.specs.Cells.{Filled, filled, taking, untouched, listed}
-use Rattle.moves.specs.Moves.{named, names, inputsOf}
+use Rattle.procedure.specs.Cells.{Filled, filled, taking, untouched, volts, firstCells, listed}
 use Rattle.procedure.specs.Cells.{readCells, cellVoltages}
 use Rattle.procedure.specs.Wired.{ofRegisters, ofInput, voltages}
 use Rattle.cells.specs.declared.Cells.{Cells}
 use Rattle.cells.proofs.ByRegisters.{of-input, ByRegisters}
-use Rattle.moves.proofs.CrateList.{shows}
-use Rattle.laws.proofs.Lists.{map-same, getD-any}
+use Rattle.moves.proofs.CrateList.{at, at-input, shows}
+use Rattle.laws.proofs.Lists.{map-same, map-take}
 use Rattle.procedure.proofs.Converted.{length-converted}
 use Rattle.procedure.proofs.Reading.{by-call}
 use Rattle.bq769x0.proofs.Sizes.{sound-pack}
@@ -106,31 +105,41 @@ module _ (d : BQ769x0) (held : length (d .readings .cells) ≡ 15)
   pub crate-list : (readings : List ℤ) → length readings ≡ x
       → firstCells n (taking d readings .readings .cells) ≡ map (ofInput readings) (inputsOf x n)
   crate-list readings size =
+      let none = asCell (pos 0) in
       let behind = drop (length (asCells readings)) (d .readings .cells) in
+      let cells = asCells readings ++ behind in
       let converted = length-map readings asCell in
-      let all : length (asCells readings ++ behind) ≡ 15 =
+      let all : length cells ≡ 15 =
       length-append (asCells readings) behind
       ∙ omega (arith, converted, length-drop (length (asCells readings)) (d .readings .cells), at-most-15 x n pack) in
-      shows (asCells readings ++ behind) all x n
+      sym (map-take volts n (inTurn none (moves x n) cells))
+      ∙ ap (map volts) (shows none cells all x n)
+      ∙ map-map volts (at none cells) (inputsOf x n)
       ∙ map-same _ (ofInput readings) (inputsOf x n) λ k h.
-      let place = getD (inputsOf x n) k 0 - 1 in
-      let there : place < length (asCells readings) = omega (arith, converted, shown-within x n pack k h) in
+      let input = getD (inputsOf x n) k 0 in
+      let within = shown-within x n pack k h in
+      let there : input - 1 < length (asCells readings) = omega (arith, converted, within) in
       ap volts
-      (List·getD-append (asCells readings) behind (named 0) place there
-      ∙ getD-any (asCells readings) place (named 0) (asCell (pos 0)) there
-      ∙ List·getD-map asCell readings place (pos 0))
+      (at-input none cells input (within .0)
+      ∙ List·getD-append (asCells readings) behind none (input - 1) there
+      ∙ List·getD-map asCell readings (input - 1) (pos 0))
 
   -- where the lists are the same whatever is read, the pack is one of those: so by a reading that numbers the inputs
   counted : List ℤ
   counted = take x (map pos names)
 
-  counted-off : (map (ofInput counted) (inputsOf x n) ≡ inputsOf x n) × (voltages x n counted ≡ fitted x n)
-  unfolding counted fitted
+  -- the number that a device of y inputs then gives for one of them
+  numbered : ℕ → ℕ → ℕ
+  numbered y input = natAbs (ofInput (take y (map pos names)) input)
+
+  counted-off : (map natAbs (map (ofInput counted) (inputsOf x n)) ≡ inputsOf x n)
+      × (map natAbs (voltages x n counted) ≡ fitted x n)
+  unfolding counted numbered fitted
   counted-off = (
-    same-is _ _
-        (of-pack (λ y m. same (map (ofInput (take y (map pos names))) (inputsOf y m)) (inputsOf y m)) tt x n pack),
-    same-is _ _
-        (of-pack (λ y m. same (map (ofInput (take y (map pos names))) (fitted y m)) (fitted y m)) tt x n pack),
+    map-map natAbs (ofInput counted) (inputsOf x n)
+        ∙ same-is _ _ (of-pack (λ y m. same (map (numbered y) (inputsOf y m)) (inputsOf y m)) tt x n pack),
+    map-map natAbs (ofInput counted) (fitted x n)
+        ∙ same-is _ _ (of-pack (λ y m. same (map (numbered y) (fitted y m)) (fitted y m)) tt x n pack),
   )
 
   pub only-alike : ((readings : List ℤ) → length readings ≡ x
@@ -139,11 +148,12 @@ module _ (d : BQ769x0) (held : length (d .readings .cells) ≡ 15)
   unfolding counted
   only-alike lists =
       let size : length counted ≡ x = length-take-le x (map pos names) (at-most-15 x n pack .0) in
-      only-those x n pack (sym (counted-off .0) ∙ sym (crate-list counted size) ∙ lists counted size ∙ counted-off .1)
+      let alike = sym (crate-list counted size) ∙ lists counted size in
+      only-those x n pack (sym (counted-off .0) ∙ ap (map natAbs) alike ∙ counted-off .1)
 
 -- ---- an accepted run of the crate's call, by registers
-module _ (d : BQ769x0) (held : length (d .readings .cells) ≡ 15) (b : Bus) (list : List ℕ) where
-  abbrev Shows : List ℕ → Type 0
+module _ (d : BQ769x0) (held : length (d .readings .cells) ≡ 15) (b : Bus) (list : List ℤ) where
+  abbrev Shows : List ℤ → Type 0
   Shows list′ =
       (bytes : List ℕ)
       × (onTape (readBytes (d .link) 0x0C (2 * d .link .x)) b .answer ≡ value bytes)
@@ -165,15 +175,15 @@ module _ (d : BQ769x0) (held : length (d .readings .cells) ≡ 15) (b : Bus) (li
       ∙ map-same _ (ofRegisters (d .adc) bytes) (inputsOf (d .link .x) (d .«cell_count»)) λ k h.
       let within = shown-within (d .link .x) (d .«cell_count») pack k h in
       of-input (d .adc) bytes (d .link .x) _ size (within .0) (within .1) in
-      (bytes, read, ap (λ (l : List ℕ). l over list) listing)
+      (bytes, read, ap (λ (l : List ℤ). l over list) listing)
 
-  pub crate-by-registers : (r : Cells) (list′ log : List ℕ)
+  pub crate-by-registers : (r : Cells) (list′ : List ℤ) (log : List ℕ)
       → ran (filled (asRaw (r .answer)) (r .device) list′) (b .tape) log (r .at) ≡ onTape (cellVoltages d list) b
       → r .answer ≡ R.Done → Shows list′
   crate-by-registers r list′ log promise done = subst⁻¹ Accepted promise accepted (ap asRaw done)
 
   -- ---- on those packs the two calls leave the same list
-  pub both-alike : alike (d .link .x) (d .«cell_count») ≡ true → (inputs inputs″ list′ list″ : List ℕ)
+  pub both-alike : alike (d .link .x) (d .«cell_count») ≡ true → (inputs inputs″ : List ℕ) (list′ list″ : List ℤ)
       → Shows list′
       → ByRegisters d b inputs list inputs″ list″
       → list′ ≡ list″

@@ -6,11 +6,14 @@ use mathlib.Core.Bool.{true, false}
 use mathlib.Core.List.{List, map}
 use Prim.Native.Nat.{ℕ, _+_, _-_, _*_, _≤_, _<_, min}
 use native.Mathlib.Omega.{arith}
-use lib.IntN.{pos}
+use lib.IntN.{ℤ, pos, negℤ}
 use lib.ListN.{length, getD, length-map, List·getD-append, List·getD-map}
-use Rattle.numbers.specs.Numbers.{word, asU32}
+use lib.Signed.{mag, _≤ℤ_}
+use Rattle.numbers.specs.Numbers.{word, asI32}
 use Rattle.refusals.specs.Refusal.{value}
 use Rattle.adc.specs.Conversion.{millivolts}
+use Rattle.adc.specs.Crate.{crateUv, crateMillivolts}
+use Rattle.adc.proofs.Crate.{crate-input, input-range}
 use Rattle.adc.specs.declared.transfer.AdcTransferFunction.{AdcTransferFunction}
 use Rattle.wiring.specs.Tables.{fitted}
 use Rattle.wiring.specs.Blocks.{shorted}
@@ -32,7 +35,7 @@ use Rattle.procedure.proofs.Fitted.{of-fitted}
 use Rattle.laws.proofs.Lists.{map-same, getD-any}
 use Rattle.procedure.proofs.Converted.{length-converted, converted-at}
 use Rattle.procedure.proofs.Reading.{by-call}
-use Rattle.bq769x0.proofs.Sizes.{sound-pack}
+use Rattle.bq769x0.proofs.Sizes.{sound-pack, sound-gain}
 
 -- ---- an input's reading is that of its two registers
 pub of-input : (adc : AdcTransferFunction) (bytes : List ℕ) (x input : ℕ)
@@ -45,20 +48,19 @@ of-input adc bytes x input size low high =
     let first : i * 2 ≡ highOf input - 0x0C = omega arith in
     let second : i * 2 + 1 ≡ highOf input + 1 - 0x0C = omega arith in
     let words = ap₂ (λ (h l : ℕ). word (getD bytes h 0) (getD bytes l 0)) first second in
-    ap asU32
-    (getD-any (converted adc bytes) i (pos 0) _ more
+    getD-any (converted adc bytes) i (pos 0) _ more
     ∙ converted-at adc bytes i there
-    ∙ ap (millivolts (adc .gain) (adc .offset)) words)
+    ∙ ap (millivolts (adc .gain) (adc .offset)) words
 
 -- ---- an accepted reading, from the lists lent to the lists left
-pub record ByRegisters (d : BQ769x0) (b : Bus) (inputs list inputs′ list′ : List ℕ) : Type 0 where
+pub record ByRegisters (d : BQ769x0) (b : Bus) (inputs : List ℕ) (list : List ℤ) (inputs′ : List ℕ) (list′ : List ℤ) : Type 0 where
   pub sound : isSound d ≡ true
   pub bytes : List ℕ
   pub read : onTape (readBytes (d .link) 0x0C (2 * d .link .x)) b .answer ≡ value bytes
   pub fits : inputs′ ≡ fitted (d .link .x) (d .«cell_count») over inputs
   pub volts : list′ ≡ map (ofRegisters (d .adc) bytes) (fitted (d .link .x) (d .«cell_count»)) over list
 
-module _ (d : BQ769x0) (b : Bus) (inputs list : List ℕ) where
+module _ (d : BQ769x0) (b : Bus) (inputs : List ℕ) (list : List ℤ) where
   abbrev Accepted : Ran Shown → Type 0
   Accepted x = x .answer .answer ≡ value tt → ByRegisters d b inputs list (x .answer .inputs) (x .answer .list)
 
@@ -75,19 +77,19 @@ module _ (d : BQ769x0) (b : Bus) (inputs list : List ℕ) where
         read = read;
         fits = refl;
         volts =
-            ap (λ (l : List ℕ). l over list)
+            ap (λ (l : List ℤ). l over list)
             (of-fitted d sound (ofInput (converted (d .adc) bytes)) (ofRegisters (d .adc) bytes)
             (λ input low high. of-input (d .adc) bytes (d .link .x) input size low high));
       }
 
   -- by its promise, every run of the code that is accepted
-  pub by-registers : (r : Cells) (inputs′ list′ log : List ℕ)
+  pub by-registers : (r : Cells) (inputs′ : List ℕ) (list′ : List ℤ) (log : List ℕ)
       → ran (shown (asRaw (r .answer)) (r .device) inputs′ list′) (b .tape) log (r .at) ≡ onTape (wired d inputs list) b
       → r .answer ≡ R.Done → ByRegisters d b inputs list inputs′ list′
   by-registers r inputs′ list′ log promise done = subst⁻¹ Accepted promise accepted (ap asRaw done)
 
 -- ---- the cell at a place, from 0
-module _ {d : BQ769x0} {b : Bus} {inputs list inputs′ list′ : List ℕ} (read : ByRegisters d b inputs list inputs′ list′)
+module _ {d : BQ769x0} {b : Bus} {inputs inputs′ : List ℕ} {list list′ : List ℤ} (read : ByRegisters d b inputs list inputs′ list′)
     (k : ℕ) (h : k < d .«cell_count») where
   abbrev x : ℕ
   x = d .link .x
@@ -101,14 +103,32 @@ module _ {d : BQ769x0} {b : Bus} {inputs list inputs′ list′ : List ℕ} (rea
   pub kth-input : getD inputs′ k 0 ≡ inputAt x n k
   kth-input = ap (λ (l : List ℕ). getD l k 0) (read .fits) ∙ List·getD-append (fitted x n) _ 0 k more
 
-  pub kth-voltage : getD list′ k 0 ≡ ofRegisters (d .adc) (read .bytes) (inputAt x n k)
+  pub kth-voltage : getD list′ k (pos 0) ≡ ofRegisters (d .adc) (read .bytes) (inputAt x n k)
   kth-voltage =
       let f = ofRegisters (d .adc) (read .bytes) in
       let there : k < length (map f (fitted x n)) = rw (length-map (fitted x n) f) more in
-      ap (λ (l : List ℕ). getD l k 0) (read .volts)
-      ∙ List·getD-append (map f (fitted x n)) _ 0 k there
-      ∙ getD-any (map f (fitted x n)) k 0 (f 0) there
+      ap (λ (l : List ℤ). getD l k (pos 0)) (read .volts)
+      ∙ List·getD-append (map f (fitted x n)) _ (pos 0) k there
+      ∙ getD-any (map f (fitted x n)) k (pos 0) (f 0) there
       ∙ List·getD-map f (fitted x n) k 0
+
+  -- where bytes were read, and the offset is an `i8`: the crate's u32, read in two's complement, and what an input can have
+  module _ (bytes : (i : ℕ) → getD (read .bytes) i 0 < 256) (byte : mag (d .adc .offset) < 128) where
+    abbrev reading : ℕ
+    reading =
+        word (byteOf (read .bytes) (highOf (inputAt x n k))) (byteOf (read .bytes) (highOf (inputAt x n k) + 1))
+
+    reads : reading < 65536
+    reads = omega (arith, bytes (highOf (inputAt x n k) - 0x0C), bytes (highOf (inputAt x n k) + 1 - 0x0C))
+
+    pub kth-crate : asI32 (crateMillivolts (crateUv (d .adc .gain) (d .adc .offset) reading)) ≡ getD list′ k (pos 0)
+    kth-crate =
+        crate-input (d .adc .gain) (d .adc .offset) reading reads byte (omega (arith, sound-gain d (read .sound)))
+        ∙ sym kth-voltage
+
+    pub kth-range : (negℤ (pos 128) ≤ℤ getD list′ k (pos 0)) × (getD list′ k (pos 0) ≤ℤ pos 26078)
+    kth-range =
+        rw kth-voltage (input-range (d .adc .gain) (d .adc .offset) reading reads byte (sound-gain d (read .sound)))
 
 -- ---- two accepted readings whose bytes differ at shorted inputs alone show the same
 abbrev pub SameAt : List ℕ → List ℕ → ℕ → Type 0
@@ -116,7 +136,7 @@ SameAt bytes bytes″ input =
     (byteOf bytes (highOf input) ≡ byteOf bytes″ (highOf input))
     × (byteOf bytes (highOf input + 1) ≡ byteOf bytes″ (highOf input + 1))
 
-pub shorted-unseen : {d : BQ769x0} {b b″ : Bus} {inputs list inputs′ list′ inputs″ list″ : List ℕ}
+pub shorted-unseen : {d : BQ769x0} {b b″ : Bus} {inputs inputs′ inputs″ : List ℕ} {list list′ list″ : List ℤ}
     (one : ByRegisters d b inputs list inputs′ list′) (other : ByRegisters d b″ inputs list inputs″ list″)
     → ((input : ℕ) → 1 ≤ input → input ≤ d .link .x → shorted (d .link .x) (d .«cell_count») input ≡ false
     → SameAt (one .bytes) (other .bytes) input)
@@ -131,5 +151,5 @@ shorted-unseen {d} {list = list} one other same =
     let more = rw (as-many x n pack) at h in
     let within = row-within x n pack k more in
     let alike = same (inputAt x n k) (within .0) (within .1) (every-pack x n pack .unshorted k more) in
-    ap₂ (λ (high low : ℕ). asU32 (millivolts (adc .gain) (adc .offset) (word high low))) (alike .0) (alike .1) in
-    (one .fits ∙ sym (other .fits), one .volts ∙ ap (λ (l : List ℕ). l over list) volts ∙ sym (other .volts))
+    ap₂ (λ (high low : ℕ). millivolts (adc .gain) (adc .offset) (word high low)) (alike .0) (alike .1) in
+    (one .fits ∙ sym (other .fits), one .volts ∙ ap (λ (l : List ℤ). l over list) volts ∙ sym (other .volts))

@@ -1,12 +1,10 @@
--- What private contracts cite: what the code leaves in the sixteen places for the inputs, each below zero as 2^32 less its size.
--- Nobody has to believe it.
+-- What private contracts cite: what the code leaves in the sixteen places for the inputs. Nobody has to believe it.
 -- Assumes nothing.
 use mathlib.Core.Path.{_≡_}
-use mathlib.Core.List.{List, map}
+use mathlib.Core.List.{List}
 use Prim.Native.Nat.{ℕ}
 use lib.IntN.{ℤ}
 use lib.ListN.{length, take}
-use Rattle.numbers.specs.Numbers.{asU32}
 use Rattle.refusals.specs.Refusal.{value, answering}
 use Rattle.adc.specs.declared.transfer.AdcTransferFunction.{AdcTransferFunction}
 use Rattle.bus.specs.Transfers.{Bus}
@@ -17,14 +15,14 @@ use Rattle.bus.specs.declared.link.Raw.{Raw}
 use Rattle.procedure.specs.Inputs.{converted, readInputs}
 
 -- of 32 bytes the first n inputs
-pub record Held (adc : AdcTransferFunction) (bytes : List ℕ) (n : ℕ) (cells : List ℕ) : Type 0 where
+pub record Held (adc : AdcTransferFunction) (bytes : List ℕ) (n : ℕ) (cells : List ℤ) : Type 0 where
   pub from : length bytes ≡ 32
   pub room : length cells ≡ 16
-  pub first : take n cells ≡ take n (map asU32 (converted adc bytes))
+  pub first : take n cells ≡ take n (converted adc bytes)
 
 -- a read of all inputs: what `readInputs` answers with, and where it was done the first X places hold it
-pub record Taken (link : Link) (adc : AdcTransferFunction) (b : Bus) (r : Raw) (cells log : List ℕ) : Type 0 where
+pub record Taken (link : Link) (adc : AdcTransferFunction) (b : Bus) (r : Raw) (cells : List ℤ) (log : List ℕ) : Type 0 where
   pub readings : List ℤ
   pub read : ran (answering (asRaw (r .answer)) readings) (b .tape) log (r .at) ≡ onTape (readInputs link adc) b
   pub room : length cells ≡ 16
-  pub first : asRaw (r .answer) ≡ value tt → take (link .x) cells ≡ map asU32 readings
+  pub first : asRaw (r .answer) ≡ value tt → take (link .x) cells ≡ readings

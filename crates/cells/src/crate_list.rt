@@ -7,8 +7,7 @@ ghost use Rattle.bq769x0.specs.Record.{isSound};
 ghost use Rattle.laws.specs.Over.{_over_};
 ghost use Rattle.bus.specs.Lent.{does};
 ghost use Rattle.bus.specs.Raw.{asRaw};
-ghost use Rattle.moves.specs.Moves.{firstCells};
-ghost use Rattle.procedure.specs.Cells.{filled, handedBack, readCells, cellVoltages};
+ghost use Rattle.procedure.specs.Cells.{filled, firstCells, handedBack, readCells, cellVoltages};
 use crate::Cells;
 use crate::inputs;
 use bq769x0::BQ769x0;
@@ -20,7 +19,7 @@ use units::MilliVolts;
 
 pub fn cell_voltages(
     device: BQ769x0,
-    list: &mut [u32],
+    list: &mut [i32],
     tape: &[u8],
     log: &mut [u8],
     at: Cursor,
@@ -41,7 +40,7 @@ pub fn cell_voltages(
 }
 
 // On a record and a list that pass the tests; where the read is refused nothing of either is touched.
-fn read_cells(device: BQ769x0, list: &mut [u32], tape: &[u8], log: &mut [u8], at: Cursor) -> Cells
+fn read_cells(device: BQ769x0, list: &mut [i32], tape: &[u8], log: &mut [u8], at: Cursor) -> Cells
     requires { ⌜ isSound device ≡ true ⌝ }
     requires { ⌜ device .«cell_count» ≤ length (now list) ⌝ }
     ensures { λ r. ⌜ does (readCells device (now (list .entry))) tape log at
@@ -50,7 +49,7 @@ fn read_cells(device: BQ769x0, list: &mut [u32], tape: &[u8], log: &mut [u8], at
     let link = device.link;
     let x = link.x;
     let cell_count = device.cell_count;
-    let mut inputs = [0u32; 16];
+    let mut inputs = [0i32; 16];
     let read = inputs::read_inputs(link, device.adc, &mut inputs, tape, log, at);
     let answer = read.answer;
     let next = read.at;
@@ -74,7 +73,7 @@ fn read_cells(device: BQ769x0, list: &mut [u32], tape: &[u8], log: &mut [u8], at
 }
 
 // The leading part of the list, filled from the record; nothing where the count exceeds the list or 15.
-pub fn cells_of<'a>(device: BQ769x0, list: &'a mut [u32]) -> &'a mut [u32]
+pub fn cells_of<'a>(device: BQ769x0, list: &'a mut [i32]) -> &'a mut [i32]
     ensures { λ r. ⌜ (now r ≡ handedBack (device .«cell_count») (device .readings .cells) (length (now (list .entry))))
         × (r .ptr ≡ list .entry .ptr) ⌝ }
 {
@@ -91,20 +90,21 @@ pub fn cells_of<'a>(device: BQ769x0, list: &'a mut [u32]) -> &'a mut [u32]
 }
 
 // The first n of the cells, over the list's first n.
-fn fill(n: usize, cells: [MilliVolts; 15], list: &mut [u32])
+fn fill(n: usize, cells: [MilliVolts; 15], list: &mut [i32])
     requires { ⌜ (n ≤ 15) × (n ≤ length (now list)) ⌝ }
     ensures { λ _. ⌜ now (list .exit) ≡ firstCells n cells over now (list .entry) ⌝ }
 {
     let mut i = 0;
     while i < n {
         let cell = cells[i];
-        list[i] = cell.0;
+        let mv = cell.0;
+        list[i] = mv;
         i += 1;
     }
 }
 
 // The first n inputs, over the list's first n.
-fn list_first(n: usize, inputs: &[u32; 16], list: &mut [u32])
+fn list_first(n: usize, inputs: &[i32; 16], list: &mut [i32])
     requires { ⌜ (n ≤ 15) × (n ≤ length (now inputs)) × (n ≤ length (now list)) ⌝ }
     ensures { λ _. ⌜ now (list .exit) ≡ take n (now (inputs .entry)) over now (list .entry) ⌝ }
 {

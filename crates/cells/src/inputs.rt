@@ -16,7 +16,7 @@ use bus::link::RawAnswer;
 pub(crate) fn read_inputs(
     link: Link,
     adc: AdcTransferFunction,
-    cells: &mut [u32; 16],
+    cells: &mut [i32; 16],
     tape: &[u8],
     log: &mut [u8],
     at: Cursor,
@@ -36,7 +36,7 @@ pub(crate) fn read_inputs(
 }
 
 // The first n inputs of the bytes, eight at a time.
-fn convert(adc: AdcTransferFunction, n: usize, buf: &[u8; 32], cells: &mut [u32; 16])
+fn convert(adc: AdcTransferFunction, n: usize, buf: &[u8; 32], cells: &mut [i32; 16])
     requires { ⌜ (n ≤ 15) × (adc .gain ≤ 396) ⌝ }
     requires { ⌜ Held adc (now buf) 0 (now cells) ⌝ }
     ensures { λ _. ⌜ Held adc (now (buf .entry)) n (now (cells .exit)) ⌝ }
@@ -49,19 +49,19 @@ fn convert(adc: AdcTransferFunction, n: usize, buf: &[u8; 32], cells: &mut [u32;
 }
 
 // After the first k inputs the next eight.
-fn convert_eight(adc: AdcTransferFunction, buf: &[u8; 32], k: usize, cells: &mut [u32; 16])
+fn convert_eight(adc: AdcTransferFunction, buf: &[u8; 32], k: usize, cells: &mut [i32; 16])
     requires { ⌜ (k ≤ 8) × (adc .gain ≤ 396) ⌝ }
     requires { ⌜ Held adc (now buf) k (now cells) ⌝ }
     ensures { λ _. ⌜ Held adc (now (buf .entry)) (k + 8) (now (cells .exit)) ⌝ }
 {
     let mut i = 0;
     while i < 8 {
-        cells[k + i] = numbers::as_u32(millivolts(adc, buf[2 * (k + i)], buf[2 * (k + i) + 1]));
+        cells[k + i] = millivolts(adc, buf[2 * (k + i)], buf[2 * (k + i) + 1]);
         i += 1;
     }
 }
 
-// As `AdcTransferFunction::millivolts`, of a gain that registers give or none: an i32 holds it.
+// As `AdcTransferFunction::apply`, of a gain that registers give or none: an i32 holds it.
 fn millivolts(adc: AdcTransferFunction, high: u8, low: u8) -> i32
     requires { ⌜ adc .gain ≤ 396 ⌝ }
     ensures { λ r. ⌜ r ≡ millivolts (adc .gain) (adc .offset) (word high low) ⌝ }

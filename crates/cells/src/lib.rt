@@ -1,10 +1,9 @@
 // The cells: all inputs read at once, listed as the crate does and by the datasheet's wiring, and stored in the record.
 ghost use mathlib.Core.Path.{_≡_};
-ghost use mathlib.Core.List.{map};
 ghost use Prim.Native.Nat.{_≤_};
 ghost use lib.ListN.{length, take};
 ghost use Rattle.laws.specs.Over.{_over_};
-ghost use Rattle.moves.specs.Moves.{named};
+ghost use Rattle.procedure.specs.Inputs.{asCells};
 use bq769x0::BQ769x0;
 use bus::Cursor;
 use bus::link::RawAnswer;
@@ -32,9 +31,9 @@ fn refuse(e: Error, device: BQ769x0, at: Cursor) -> Cells
 }
 
 // The first n inputs, over the cells held.
-fn stored(n: usize, inputs: &[u32; 16], cells: [MilliVolts; 15]) -> [MilliVolts; 15]
+fn stored(n: usize, inputs: &[i32; 16], cells: [MilliVolts; 15]) -> [MilliVolts; 15]
     requires { ⌜ (n ≤ 15) × (n ≤ length (now inputs)) ⌝ }
-    ensures { λ r. ⌜ r ≡ map named (take n (now (inputs .entry))) over cells ⌝ }
+    ensures { λ r. ⌜ r ≡ asCells (take n (now (inputs .entry))) over cells ⌝ }
 {
     let mut out = cells;
     let mut i = 0;

@@ -1,6 +1,6 @@
 // The cells by the datasheet's wiring: each fitted input once, bottom of the pack first, with its number beside it.
 ghost use mathlib.Core.Path.{_≡_};
-ghost use Prim.Native.Nat.{ℕ, _-_, _≤_, _<_};
+ghost use Prim.Native.Nat.{ℕ, _≤_, _<_};
 ghost use mathlib.Core.Bool.{true};
 ghost use mathlib.Core.List.{map};
 ghost use lib.ListN.{length, getD, take};
@@ -8,7 +8,7 @@ ghost use Rattle.bus.specs.Lent.{does};
 ghost use Rattle.bus.specs.Raw.{asRaw};
 ghost use Rattle.bq769x0.specs.Record.{isSound};
 ghost use Rattle.laws.specs.Over.{_over_};
-ghost use Rattle.procedure.specs.Wired.{shown, readWired, wired};
+ghost use Rattle.procedure.specs.Wired.{shown, ofInput, readWired, wired};
 use crate::Cells;
 use crate::inputs;
 use bq769x0::BQ769x0;
@@ -21,7 +21,7 @@ use wiring::tables;
 pub fn wired(
     device: BQ769x0,
     inputs: &mut [u8],
-    list: &mut [u32],
+    list: &mut [i32],
     tape: &[u8],
     log: &mut [u8],
     at: Cursor,
@@ -48,7 +48,7 @@ pub fn wired(
 fn read_wired(
     device: BQ769x0,
     inputs: &mut [u8],
-    list: &mut [u32],
+    list: &mut [i32],
     tape: &[u8],
     log: &mut [u8],
     at: Cursor,
@@ -61,7 +61,7 @@ fn read_wired(
     let link = device.link;
     let x = link.x;
     let cell_count = device.cell_count;
-    let mut millivolts = [0u32; 16];
+    let mut millivolts = [0i32; 16];
     let read = inputs::read_inputs(link, device.adc, &mut millivolts, tape, log, at);
     let answer = read.answer;
     let next = read.at;
@@ -86,11 +86,11 @@ fn read_wired(
 }
 
 // Each cell's input and its millivolts, over the first of either list.
-fn show(n: usize, fitted: [u8; 15], millivolts: &[u32; 16], inputs: &mut [u8], list: &mut [u32])
+fn show(n: usize, fitted: [u8; 15], millivolts: &[i32; 16], inputs: &mut [u8], list: &mut [i32])
     requires { ⌜ (n ≤ 15) × (n ≤ length (now inputs)) × (n ≤ length (now list)) ⌝ }
     requires { ⌜ ((k : ℕ) → k < n → (1 ≤ getD fitted k 0) × (getD fitted k 0 ≤ 15)) ⌝ }
     ensures { λ _. ⌜ (now (inputs .exit) ≡ take n fitted over now (inputs .entry))
-        × (now (list .exit) ≡ map (λ input. getD (now (millivolts .entry)) (input - 1) 0) (take n fitted) over now (list .entry)) ⌝ }
+        × (now (list .exit) ≡ map (ofInput (now (millivolts .entry))) (take n fitted) over now (list .entry)) ⌝ }
 {
     let mut i = 0;
     while i < n {

@@ -14,7 +14,7 @@ use units::MicroOhms;
 use units::MilliVolts;
 
 // The scope's example but for these figures: the shunt in microohms, short circuit and overcurrent in A, undervoltage and overvoltage in mV.
-fn with(shunt: u32, scd: u32, ocd: u32, uv: u32, ov: u32) -> Config {
+fn with(shunt: u32, scd: u32, ocd: u32, uv: i32, ov: i32) -> Config {
     Config {
         shunt: MicroOhms(shunt),
         scd_delay: SCDDelay::_200uS,

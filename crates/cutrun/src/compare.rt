@@ -18,7 +18,9 @@ fn same_answer(a: InitAnswer, b: InitAnswer) -> bool {
 
 fn same_cells(a: [MilliVolts; 15], b: [MilliVolts; 15]) -> bool {
     for i in 0..15 {
-        if a[i].0 != b[i].0 {
+        let one = a[i];
+        let other = b[i];
+        if one.0 != other.0 {
             return false;
         }
     }

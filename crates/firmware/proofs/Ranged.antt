@@ -3,12 +3,12 @@
 -- Assumes nothing.
 use mathlib.Core.Path.{_≡_}
 use mathlib.Core.Bool.{Bool, true, false, false≢true, not}
-use mathlib.Core.List.{List, map}
+use mathlib.Core.List.{List}
 use Prim.Native.Nat.{ℕ, _<_}
 use native.Mathlib.Omega.{arith}
+use lib.IntN.{ℤ, pos}
 use lib.ListN.{replicate}
 use Rattle.refusals.specs.Refusal.{Answer, value, refused, nine}
-use Rattle.units.specs.declared.MilliVolts.{MilliVolts}
 use Rattle.plan.specs.Steps.{InMv, stepsFor}
 use Rattle.plan.specs.Plan.{Values}
 use Rattle.plan.specs.InNumbers.{rangeNumber}
@@ -30,7 +30,6 @@ use Rattle.bus.proofs.Always.{always, on-tape, always-after, always-bind, alway
 use Rattle.procedure.specs.Cells.{cellVoltages}
 use Rattle.procedure.specs.Wired.{wired}
 use Rattle.job_setup.specs.JobInit.{noDevice, jobInit}
-use Rattle.layout.specs.Cells.{cellOf}
 use Rattle.firmware.specs.JobCells.{Listed, unlisted, storing, readCells, onlyReady, jobCells, asList}
 use Rattle.firmware.specs.JobWired as by-wiring
 use Rattle.firmware.specs.JobWired.{Beside, readWired, jobWired, asBoth}
@@ -91,18 +90,18 @@ job-in bytes =
 ListedIn : Listed → Type 0
 ListedIn l = Ranged (l .left .answer)
 
-storing-in : (n : ℕ) (cells : List MilliVolts) (list : List ℕ) (values : Values) (d : BQ769x0) (y : Answer Done)
-    → rangeNumber (values .range) < 2 → ListedIn (storing n cells list values d y)
+storing-in : (n : ℕ) (mvs : List ℤ) (list : List ℕ) (values : Values) (d : BQ769x0) (y : Answer Done)
+    → rangeNumber (values .range) < 2 → ListedIn (storing n mvs list values d y)
 unfolding ListedIn
-storing-in n cells list values d (value done) h = h
-storing-in n cells list values d (refused r) h = tt
+storing-in n mvs list values d (value done) h = h
+storing-in n mvs list values d (refused r) h = tt
 
 ready-in : (list : List ℕ) (d : BQ769x0) (y : Answer Values) → Ranged y → always ListedIn (onlyReady list d y)
 unfolding readCells always ListedIn
 ready-in list d (value values) h =
     always-pure ListedIn (unlisted d list) _ (λ r. tt) _ λ room e.
-    always-bind ListedIn (cellVoltages d (replicate 15 0)) _ λ read.
-    storing-in _ (read .device .readings .cells) list values (read .device) (read .answer) h
+    always-bind ListedIn (cellVoltages d (replicate 15 (pos 0))) _ λ read.
+    storing-in _ (read .list) list values (read .device) (read .answer) h
 ready-in list d (refused r) h = tt
 
 cells-in : (bytes list : List ℕ) → always ListedIn (jobCells bytes list)
@@ -120,8 +119,8 @@ wired-ready-in : (inputs list : List ℕ) (d : BQ769x0) (y : Answer Values) → 
 unfolding readWired always BesideIn ListedIn
 wired-ready-in inputs list d (value values) h =
     always-pure BesideIn (by-wiring.unlisted d inputs list) _ (λ r. tt) _ λ room e.
-    always-bind BesideIn (wired d inputs (replicate 15 0)) _ λ read.
-    storing-in _ (map cellOf (read .list)) list values (read .device) (read .answer) h
+    always-bind BesideIn (wired d inputs (replicate 15 (pos 0))) _ λ read.
+    storing-in _ (read .list) list values (read .device) (read .answer) h
 wired-ready-in inputs list d (refused r) h = tt
 
 wired-in : (bytes inputs list : List ℕ) → always BesideIn (jobWired bytes inputs list)

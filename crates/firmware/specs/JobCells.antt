@@ -1,11 +1,12 @@
--- A job set up, and one cell reading after it, as a program. The caller's list is bytes: four a cell, high byte first.
+-- A job set up, and one cell reading after it, as a program. The caller's list is bytes: four a cell, in two's
+-- complement, high byte first.
 -- Assumes nothing.
 use Prim.Native.Nat.{ℕ}
 use mathlib.Core.Bool.{not}
 use mathlib.Core.List.{List}
+use lib.IntN.{ℤ, pos}
 use lib.ListN.{length, replicate}
 use Rattle.refusals.specs.Refusal.{Refusal, Answer, value, refused, refusedIf}
-use Rattle.units.specs.declared.MilliVolts.{MilliVolts}
 use Rattle.plan.specs.Plan.{Values}
 use Rattle.bus.specs.Programs.{Prog, ret, Ran, bind, _orLeave_, _>>=_}
 use Rattle.bus.specs.Raw.{Done}
@@ -32,16 +33,16 @@ unlisted d list r = listed (refused r) d list
 abbrev pub roomFor : ℕ → List ℕ → Answer Done
 roomFor n list = refusedIf (not (hasRoom n (length list))) 19 (value tt)
 
-abbrev pub storing : ℕ → List MilliVolts → List ℕ → Values → BQ769x0 → Answer Done → Listed
-storing n cells list values d (value done) = listed (value values) d (stored n cells list)
-storing n cells list values d (refused r) = unlisted d list r
+abbrev pub storing : ℕ → List ℤ → List ℕ → Values → BQ769x0 → Answer Done → Listed
+storing n mvs list values d (value done) = listed (value values) d (stored n mvs list)
+storing n mvs list values d (refused r) = unlisted d list r
 
 -- the crate's cell reading of a device that was set up with these values
 unfoldable pub readCells : List ℕ → Values → BQ769x0 → Prog Listed
 readCells list values d = do
   _ ← ret (roomFor (d .«cell_count») list) orLeave unlisted d list
-  bind (cellVoltages d (replicate 15 0)) λ (read : Filled).
-      ret (storing (d .«cell_count») (read .device .readings .cells) list values (read .device) (read .answer))
+  bind (cellVoltages d (replicate 15 (pos 0))) λ (read : Filled).
+      ret (storing (d .«cell_count») (read .list) list values (read .device) (read .answer))
 
 abbrev pub onlyReady : List ℕ → BQ769x0 → Answer Values → Prog Listed
 onlyReady list d (value values) = readCells list values d

@@ -2,7 +2,8 @@
 -- Beside the list, of four bytes a cell, the caller lends a byte a cell for the inputs.
 -- Assumes nothing.
 use Prim.Native.Nat.{ℕ}
-use mathlib.Core.List.{List, map}
+use mathlib.Core.List.{List}
+use lib.IntN.{pos}
 use lib.ListN.{replicate}
 use Rattle.refusals.specs.Refusal.{Refusal, Answer, value, refused}
 use Rattle.plan.specs.Plan.{Values}
@@ -12,7 +13,6 @@ use Rattle.bq769x0.specs.declared.BQ769x0.{BQ769x0}
 use Rattle.procedure.specs.Wired.{Shown, wired}
 use Rattle.job_setup.specs.JobInit.{jobInit}
 use Rattle.firmware.specs.Handed.{Handed}
-use Rattle.layout.specs.Cells.{cellOf}
 use Rattle.firmware.specs.JobCells.{Listed, listed, roomFor, storing, HandedList, asList}
 
 -- an answer, the record and the list, and the inputs beside them
@@ -31,8 +31,8 @@ unlisted d inputs list r = beside (refused r) d inputs list
 unfoldable pub readWired : List ℕ → List ℕ → Values → BQ769x0 → Prog Beside
 readWired inputs list values d = do
   _ ← ret (roomFor (d .«cell_count») list) orLeave unlisted d inputs list
-  bind (wired d inputs (replicate 15 0)) λ (read : Shown). ret (record {
-    listed = storing (d .«cell_count») (map cellOf (read .list)) list values (read .device) (read .answer);
+  bind (wired d inputs (replicate 15 (pos 0))) λ (read : Shown). ret (record {
+    listed = storing (d .«cell_count») (read .list) list values (read .device) (read .answer);
     inputs = read .inputs;
   })
 

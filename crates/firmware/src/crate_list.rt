@@ -33,7 +33,7 @@ pub(crate) fn read_cells(
             at,
         };
     }
-    let mut numbers = [0u32; 15];
-    let read = crate_list::cell_voltages(device, &mut numbers, tape, log, at);
-    store_read(values, read, n, numbers, list)
+    let mut millivolts = [0i32; 15];
+    let read = crate_list::cell_voltages(device, &mut millivolts, tape, log, at);
+    store_read(values, read, n, millivolts, list)
 }

@@ -1,11 +1,10 @@
 // The caller's list after a reading.
 ghost use mathlib.Core.Path.{_≡_};
 ghost use mathlib.Core.Bool.{true};
-ghost use mathlib.Core.List.{map};
 ghost use lib.ListN.{length};
 ghost use Rattle.bus.specs.Raw.{asRaw};
 ghost use Rattle.plan.specs.Plan.{asInit, asValues};
-ghost use Rattle.layout.specs.Cells.{hasRoom, cellOf};
+ghost use Rattle.layout.specs.Cells.{hasRoom};
 ghost use Rattle.firmware.specs.JobCells.{listed, storing};
 use bus::link::RawAnswer;
 use cells::Cells;
@@ -14,18 +13,18 @@ use plan::CalculatedValues;
 use plan::InitAnswer;
 use setup::left::Init;
 
-// What comes of a reading of n cells that these numbers were lent to: its refusal,
-// or the values, with the numbers in the list.
+// What comes of a reading of n cells that these millivolts were lent to: its refusal,
+// or the values, with the millivolts in the list.
 pub(crate) fn store_read(
     values: CalculatedValues,
     read: Cells,
     n: u8,
-    numbers: [u32; 15],
+    millivolts: [i32; 15],
     list: &mut [u8],
 ) -> Init
     requires { ⌜ hasRoom n (length (now list)) ≡ true ⌝ }
     ensures { λ r. ⌜ (listed (asInit (r .answer)) (r .device) (now (list .exit))
-        ≡ storing n (map cellOf numbers) (now (list .entry)) (asValues values) (read .device) (asRaw (read .answer)))
+        ≡ storing n millivolts (now (list .entry)) (asValues values) (read .device) (asRaw (read .answer)))
         × (r .at ≡ read .at) ⌝ }
 {
     let answer = read.answer;
@@ -38,7 +37,7 @@ pub(crate) fn store_read(
             at,
         };
     };
-    put_cells(n, numbers, list);
+    put_cells(n, millivolts, list);
     Init {
         answer: InitAnswer::Ready(values),
         device,

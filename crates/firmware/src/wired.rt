@@ -34,7 +34,7 @@ pub(crate) fn read_wired(
             at,
         };
     }
-    let mut numbers = [0u32; 15];
-    let read = wired::wired(device, inputs, &mut numbers, tape, log, at);
-    store_read(values, read, n, numbers, list)
+    let mut millivolts = [0i32; 15];
+    let read = wired::wired(device, inputs, &mut millivolts, tape, log, at);
+    store_read(values, read, n, millivolts, list)
 }

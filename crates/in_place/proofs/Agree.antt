@@ -4,6 +4,7 @@
 use mathlib.Core.Path.{_≡_, ap}
 use Prim.Native.Nat.{ℕ}
 use mathlib.Core.List.{List}
+use lib.IntN.{ℤ}
 use Rattle.plan.specs.Plan.{Values, asInit}
 use Rattle.bus.specs.Transfers.{Bus}
 use Rattle.bus.specs.Programs.{Prog, ran, onTape}
@@ -39,7 +40,7 @@ init-agree p b r r′ d d′ log log′ e e′ =
     )
 
 -- `cell_voltages`
-pub voltages-agree : (p : Prog Filled) (b : Bus) (r r′ : Raw) (d d′ : BQ769x0) (list list′ log log′ : List ℕ)
+pub voltages-agree : (p : Prog Filled) (b : Bus) (r r′ : Raw) (d d′ : BQ769x0) (list list′ : List ℤ) (log log′ : List ℕ)
     → ran (filled (asRaw (r .answer)) d list) (b .tape) log (r .at) ≡ onTape p b
     → ran (filled (asRaw (r′ .answer)) d′ list′) (b .tape) log′ (r′ .at) ≡ onTape p b
     → (r ≡ r′) × (d ≡ d′) × (list ≡ list′) × (log ≡ log′)
@@ -52,7 +53,7 @@ voltages-agree p b r r′ d d′ list list′ log log′ e e′ =
     )
 
 -- `wired`
-pub wired-agree : (p : Prog Shown) (b : Bus) (r r′ : Raw) (d d′ : BQ769x0) (inputs inputs′ list list′ log log′ : List ℕ)
+pub wired-agree : (p : Prog Shown) (b : Bus) (r r′ : Raw) (d d′ : BQ769x0) (inputs inputs′ : List ℕ) (list list′ : List ℤ) (log log′ : List ℕ)
     → ran (shown (asRaw (r .answer)) d inputs list) (b .tape) log (r .at) ≡ onTape p b
     → ran (shown (asRaw (r′ .answer)) d′ inputs′ list′) (b .tape) log′ (r′ .at) ≡ onTape p b
     → (r ≡ r′) × (d ≡ d′) × (inputs ≡ inputs′) × (list ≡ list′) × (log ≡ log′)

@@ -60,10 +60,10 @@ abbrev pub reference : Lft → ℕ → ℕ → GName → BQ769x0 → Fml
 reference κ b o γ h = MutRef (named 0) κ B.the-row .own (record { ptr = (b, o); name = γ; now = h }) (vptr b o ∷ [])
 
 -- a slice's machine value, which fits a local of its type where the length does
-abbrev pub slice : RefT (List ℕ) → Val
+abbrev pub slice : {A : Type 0} → RefT (List A) → Val
 slice x = sliceVal (x .ptr) (length (x .now))
 
-pub slice-fits : (x : RefT (List ℕ)) → length (x .now) < 2 ^ 64 → Unit {0} × WT (slice x)
+pub slice-fits : {A : Type 0} (x : RefT (List A)) → length (x .now) < 2 ^ 64 → Unit {0} × WT (slice x)
 slice-fits x fits = (tt, (tt, (record { fits = fits }, tt)))
 
 -- what is owned of the tape, and of a `&mut` slice

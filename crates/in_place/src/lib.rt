@@ -47,7 +47,7 @@ pub fn init(
 
 pub fn cell_voltages(
     device: &mut BQ769x0,
-    list: &mut [u32],
+    list: &mut [i32],
     tape: &[u8],
     log: &mut [u8],
     at: Cursor,
@@ -67,7 +67,7 @@ pub fn cell_voltages(
 pub fn wired(
     device: &mut BQ769x0,
     inputs: &mut [u8],
-    list: &mut [u32],
+    list: &mut [i32],
     tape: &[u8],
     log: &mut [u8],
     at: Cursor,

@@ -5,15 +5,17 @@ use mathlib.Core.Path.{_≡_, refl, sym, ap, subst, _∙_}
 use mathlib.Core.Bool.{Bool, true, false, cond, _&&_, and-eq-true-iff}
 use mathlib.Core.List.{List, [], _∷_, _++_, append-assoc}
 use mathlib.Core.Option.{Option, none, some}
-use Prim.Native.Nat.{ℕ, _+_, _<_, _≤_}
+use Prim.Native.Nat.{ℕ, _+_, _^_, _<_, _≤_}
 use native.Mathlib.Omega.{arith}
 use lib.ListN.{length, drop, drop-of-length-le}
 use lib.Seq.{getD-drop}
 use lib.Dec.{eqb, ltb, eqb→eq}
+use lib.Signed.{mag}
 use borrow.Author.Tests.{eqb-true, ltb-true}
 use Rattle.laws.proofs.Tests.{below}
-use Rattle.numbers.specs.Numbers.{four}
+use Rattle.numbers.specs.Numbers.{four, asU32}
 use Rattle.numbers.proofs.Bytes.{word4-four, four-word4}
+use Rattle.numbers.proofs.Casts.{i32-of-u32, u32-of-i32}
 use Rattle.fields.specs.Fields.{Field, field, unfield}
 use Rattle.fields.proofs.Fields.{fieldOf, unfield-field, field-unfield, said, lies}
 use Rattle.refusals.specs.Refusal.{Answer, value, refused, no}
@@ -21,7 +23,7 @@ use Rattle.refusals.proofs.Values.{refused-not, same-value}
 use Rattle.plan.specs.Order.{_andThen_}
 use Rattle.plan.specs.declared.Config.{Config}
 use Rattle.plan.proofs.Accepted.{first}
-use Rattle.job.specs.Jobs.{byteAt, numberAt, deviceAt, isDevice, configAt, codesAt, isConfig, passing, fieldFor, deviceFor, jobOf}
+use Rattle.job.specs.Jobs.{byteAt, numberAt, signedAt, deviceAt, isDevice, configAt, codesAt, isConfig, passing, fieldFor, deviceFor, jobOf}
 use Rattle.job.specs.Encoding.{zeroOrOne, deviceValue, configValue, jobBytes}
 use Rattle.job.specs.declared.Device.{Device}
 use Rattle.job.specs.declared.Job.{Job}
@@ -50,6 +52,10 @@ module _ (d : Device) (rest : List ℕ) where
   unfolding deviceFor _andThen_
   device-alone = rw (device-first, device-read)
 
+-- the voltages are an `i32` each, as every configuration's in the code
+abbrev pub Held : Config → Type 0
+Held c = (mag (c .«uv_threshold» .0) < 2 ^ 31) × (mag (c .«ov_threshold» .0) < 2 ^ 31)
+
 module _ (c : Config) (rest : List ℕ) where
   config-first : fieldFor 0x21 isConfig (field 0x21 (configValue c) ++ rest) ≡ value (fieldOf 0x21 (configValue c) rest)
   unfolding fieldFor isConfig codesAt four
@@ -62,15 +68,17 @@ module _ (c : Config) (rest : List ℕ) where
         ov-coded .listed (c .«ov_delay»),
       )
 
-  config-read : configAt (configValue c) 0 ≡ c
+  config-read : Held c → configAt (configValue c) 0 ≡ c
   unfolding four
-  config-read =
+  config-read held =
       rw (
         word4-four (c .shunt .0),
         word4-four (c .«scd_threshold» .0),
         word4-four (c .«ocd_threshold» .0),
-        word4-four (c .«uv_threshold» .0),
-        word4-four (c .«ov_threshold» .0),
+        word4-four (asU32 (c .«uv_threshold» .0)),
+        word4-four (asU32 (c .«ov_threshold» .0)),
+        i32-of-u32 (c .«uv_threshold» .0) (held .0),
+        i32-of-u32 (c .«ov_threshold» .0) (held .1),
         scd-coded .found (c .«scd_delay»),
         ocd-coded .found (c .«ocd_delay»),
         uv-coded .found (c .«uv_delay»),
@@ -89,15 +97,15 @@ module _ (j : Job) (tape : List ℕ) where
   unfolding jobBytes
   parts = append-assoc (field 0x20 (deviceValue (j .device))) (field 0x21 (configValue (j .config))) tape
 
-  pub job-read : jobOf (jobBytes j ++ tape) ≡ value j
+  pub job-read : Held (j .config) → jobOf (jobBytes j ++ tape) ≡ value j
   unfolding jobOf _andThen_
-  job-read =
+  job-read held =
       rw (
         parts,
         device-first (j .device) after,
         config-first (j .config) tape,
         device-read (j .device) after,
-        config-read (j .config) tape,
+        config-read (j .config) tape held,
       )
 
 device-ends : (d : Device) (rest : List ℕ) → drop 7 (field 0x20 (deviceValue d) ++ rest) ≡ rest
@@ -128,6 +136,11 @@ module _ (v : List ℕ) (small : (i : ℕ) → i < 24 → byteAt v i < 256) wher
       → four (numberAt v i) ≡ byteAt v i ∷ byteAt v (i + 1) ∷ byteAt v (i + 2) ∷ byteAt v (i + 3) ∷ []
   four-at i h = four-word4 _ _ _ _ (small (i + 1) (omega arith)) (small (i + 2) (omega arith)) (small (i + 3) h)
 
+  signed-at : (i : ℕ) → i + 3 < 24 → asU32 (signedAt v i) ≡ numberAt v i
+  signed-at i h =
+      u32-of-i32 (numberAt v i)
+      (omega (arith, small i (omega arith), small (i + 1) (omega arith), small (i + 2) (omega arith), small (i + 3) h))
+
   config-written : isConfig v ≡ true → v ≡ configValue (configAt v 0)
   unfolding isConfig
   config-written e =
@@ -137,6 +150,8 @@ module _ (v : List ℕ) (small : (i : ℕ) → i < 24 → byteAt v i < 256) wher
         four-at 0 (omega arith),
         four-at 4 (omega arith),
         four-at 8 (omega arith),
+        signed-at 12 (omega arith),
+        signed-at 16 (omega arith),
         four-at 12 (omega arith),
         four-at 16 (omega arith),
         scd-coded .has (byteAt v 20) (codes .1),

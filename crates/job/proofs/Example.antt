@@ -4,6 +4,7 @@ use mathlib.Core.Path.{_≡_, refl}
 use mathlib.Core.Bool.{false}
 use mathlib.Core.List.{List, [], _∷_, _++_, map}
 use Prim.Native.Nat.{ℕ}
+use lib.IntN.{pos}
 use lib.ListN.{set, take}
 use Rattle.protection.specs.declared.delays.SCDDelay.the-variants as S
 use Rattle.protection.specs.declared.delays.OCDDelay.the-variants as O
@@ -35,8 +36,8 @@ job = record {
     shunt = record { 0 = 1000 };
     «scd_threshold» = record { 0 = 50 };
     «ocd_threshold» = record { 0 = 20 };
-    «uv_threshold» = record { 0 = 2800 };
-    «ov_threshold» = record { 0 = 4200 };
+    «uv_threshold» = record { 0 = pos 2800 };
+    «ov_threshold» = record { 0 = pos 4200 };
     «scd_delay» = S.«_200uS»;
     «ocd_delay» = O.«_320ms»;
     «uv_delay» = U.«_4s»;

@@ -3,7 +3,7 @@
 use Prim.Native.Nat.{ℕ}
 use mathlib.Core.Bool.{Bool, true, false}
 use mathlib.Core.List.{List, [], _∷_, _++_}
-use Rattle.numbers.specs.Numbers.{four}
+use Rattle.numbers.specs.Numbers.{four, asU32}
 use Rattle.fields.specs.Fields.{field}
 use Rattle.protection.specs.Delays.{scdCode, ocdCode, uvCode, ovCode}
 use Rattle.plan.specs.declared.Config.{Config}
@@ -18,14 +18,14 @@ zeroOrOne true = 1
 abbrev pub deviceValue : Device → List ℕ
 deviceValue d = d .x ∷ d .cells ∷ d .address ∷ zeroOrOne (d .check) ∷ []
 
--- shunt, SCD A, OCD A, UV mV, OV mV, and the codes of the delays
+-- shunt, SCD A, OCD A, UV mV and OV mV in two's complement, and the codes of the delays
 abbrev pub configValue : Config → List ℕ
 configValue c =
     four (c .shunt .0)
     ++ four (c .«scd_threshold» .0)
     ++ four (c .«ocd_threshold» .0)
-    ++ four (c .«uv_threshold» .0)
-    ++ four (c .«ov_threshold» .0)
+    ++ four (asU32 (c .«uv_threshold» .0))
+    ++ four (asU32 (c .«ov_threshold» .0))
     ++ scdCode (c .«scd_delay») ∷ ocdCode (c .«ocd_delay») ∷ uvCode (c .«uv_delay») ∷ ovCode (c .«ov_delay») ∷ []
 
 unfoldable pub jobBytes : Job → List ℕ

@@ -4,9 +4,10 @@ use Prim.Native.Nat.{ℕ, _+_}
 use mathlib.Core.Bool.{Bool, cond, _&&_}
 use mathlib.Core.List.{List, []}
 use mathlib.Core.Option.{Option, none, some}
+use lib.IntN.{ℤ}
 use lib.ListN.{length, getD}
 use lib.Dec.{eqb, ltb}
-use Rattle.numbers.specs.Numbers.{word4}
+use Rattle.numbers.specs.Numbers.{word4, asI32}
 use Rattle.fields.specs.Fields.{Field, unfield}
 use Rattle.refusals.specs.Refusal.{Answer, value, refused, no, asRefusal}
 use Rattle.plan.specs.Order.{_andThen_}
@@ -28,6 +29,10 @@ byteAt bytes i = getD bytes i 0
 abbrev pub numberAt : List ℕ → ℕ → ℕ
 numberAt bytes i = word4 (byteAt bytes i) (byteAt bytes (i + 1)) (byteAt bytes (i + 2)) (byteAt bytes (i + 3))
 
+-- and in two's complement
+abbrev pub signedAt : List ℕ → ℕ → ℤ
+signedAt bytes i = asI32 (numberAt bytes i)
+
 -- ---- field 20: X, cells, address, check; its value from byte i on
 abbrev pub deviceAt : List ℕ → ℕ → Device
 deviceAt bytes i = record {
@@ -41,14 +46,14 @@ deviceAt bytes i = record {
 unfoldable pub isDevice : List ℕ → Bool
 isDevice bytes = eqb (length bytes) 4 && ltb (byteAt bytes 3) 2
 
--- ---- field 21: five numbers of four bytes each, and the codes of four delays
+-- ---- field 21: five numbers of four bytes each, the voltages with their sign, and the codes of four delays
 abbrev pub configAt : List ℕ → ℕ → Config
 configAt bytes i = record {
   shunt = record { 0 = numberAt bytes i };
   «scd_threshold» = record { 0 = numberAt bytes (i + 4) };
   «ocd_threshold» = record { 0 = numberAt bytes (i + 8) };
-  «uv_threshold» = record { 0 = numberAt bytes (i + 12) };
-  «ov_threshold» = record { 0 = numberAt bytes (i + 16) };
+  «uv_threshold» = record { 0 = signedAt bytes (i + 12) };
+  «ov_threshold» = record { 0 = signedAt bytes (i + 16) };
   «scd_delay» = scdAt (byteAt bytes (i + 20));
   «ocd_delay» = ocdAt (byteAt bytes (i + 21));
   «uv_delay» = uvAt (byteAt bytes (i + 22));

@@ -2,7 +2,7 @@
 ghost use mathlib.Core.Path.{_≡_};
 ghost use Prim.Native.Nat.{_+_, _≤_, _<_};
 ghost use lib.ListN.{length};
-ghost use Rattle.job.specs.Jobs.{numberAt, codesAt, isConfig, deviceOf, configAt, deviceFor};
+ghost use Rattle.job.specs.Jobs.{numberAt, signedAt, codesAt, isConfig, deviceOf, configAt, deviceFor};
 ghost use Rattle.job.specs.Jobs.{asDevice, configFor, asConfig, jobOf, asJob};
 ghost use Rattle.job.specs.Inside.{saysField, saysDevice, saysJob, ListedAt};
 ghost use Rattle.refusals.specs.Refusal.{asRefusal, refusalIn};
@@ -118,6 +118,13 @@ fn number_at(job: &[u8], at: usize) -> u32
     numbers::be_u32(job[at], job[at + 1], job[at + 2], job[at + 3])
 }
 
+fn millivolts_at(job: &[u8], at: usize) -> MilliVolts
+    requires { ⌜ at + 4 ≤ length (now job) ⌝ }
+    ensures { λ r. ⌜ r .0 ≡ signedAt (now (job .entry)) at ⌝ }
+{
+    MilliVolts(numbers::as_i32(number_at(job, at)))
+}
+
 // At `at` stands a field of this tag and length.
 fn is_field(job: &[u8], at: usize, tag: u8, len: u16) -> bool
     requires { ⌜ at + 3 ≤ length (now job) ⌝ }
@@ -186,9 +193,9 @@ fn config_of(job: &[u8], at: usize) -> Config
         ocd_delay: ocd_delay(job[at + 21]),
         ocd_threshold: Amperes(number_at(job, at + 8)),
         uv_delay: uv_delay(job[at + 22]),
-        uv_threshold: MilliVolts(number_at(job, at + 12)),
+        uv_threshold: millivolts_at(job, at + 12),
         ov_delay: ov_delay(job[at + 23]),
-        ov_threshold: MilliVolts(number_at(job, at + 16)),
+        ov_threshold: millivolts_at(job, at + 16),
     }
 }
 

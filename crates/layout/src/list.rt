@@ -1,9 +1,8 @@
-// The caller's list of bytes: four a cell, high byte first.
+// The caller's list of bytes: four a cell, in two's complement, high byte first.
 ghost use mathlib.Core.Path.{_≡_};
-ghost use mathlib.Core.List.{map};
 ghost use Prim.Native.Nat.{_*_, _≤_};
 ghost use lib.ListN.{length};
-ghost use Rattle.layout.specs.Cells.{hasRoom, cellOf, stored, storedIn};
+ghost use Rattle.layout.specs.Cells.{hasRoom, stored, storedIn};
 
 pub fn has_room(n: u8, bytes: usize) -> bool
     ensures { λ r. ⌜ r ≡ hasRoom n bytes ⌝ }
@@ -12,21 +11,22 @@ pub fn has_room(n: u8, bytes: usize) -> bool
 }
 
 // The first n numbers, over the list's first 4 n bytes, where there is room.
-pub fn put_cells(n: u8, numbers: [u32; 15], list: &mut [u8])
-    ensures { λ _. ⌜ now (list .exit) ≡ storedIn n (map cellOf numbers) (now (list .entry)) ⌝ }
+pub fn put_cells(n: u8, millivolts: [i32; 15], list: &mut [u8])
+    ensures { λ _. ⌜ now (list .exit) ≡ storedIn n millivolts (now (list .entry)) ⌝ }
 {
     if has_room(n, list.len()) {
-        put_numbers(n as usize, numbers, list);
+        put_numbers(n as usize, millivolts, list);
     }
 }
 
-fn put_numbers(n: usize, numbers: [u32; 15], list: &mut [u8])
+fn put_numbers(n: usize, millivolts: [i32; 15], list: &mut [u8])
     requires { ⌜ (4 * n ≤ length (now list)) × (n ≤ 15) ⌝ }
-    ensures { λ _. ⌜ now (list .exit) ≡ stored n (map cellOf numbers) (now (list .entry)) ⌝ }
+    ensures { λ _. ⌜ now (list .exit) ≡ stored n millivolts (now (list .entry)) ⌝ }
 {
     let mut i = 0;
     while i < n {
-        crate::put4(list, 4 * i, numbers[i]);
+        let mv = millivolts[i];
+        crate::put4(list, 4 * i, numbers::as_u32(mv));
         i += 1;
     }
 }

@@ -2,7 +2,6 @@
 use bus::Cursor;
 use plan::CalculatedValues;
 use plan::InitAnswer;
-use plan::answer::InitNumbers;
 
 mod fields;
 pub mod refused;
@@ -15,10 +14,9 @@ pub fn transfers(log: &[u8], at: Cursor, next: Cursor) {
 // What an init reports.
 pub fn init(values: CalculatedValues) {
     let answer = InitAnswer::Ready(values);
-    ready(answer.in_numbers());
-}
-
-fn ready(numbers: InitNumbers) {
+    let numbers = answer.in_numbers();
+    let uv = values.uv_threshold.0;
+    let ov = values.ov_threshold.0;
     text::words(b"init range");
     text::number(numbers.0 as u64);
     text::words(b" scd");
@@ -26,9 +24,9 @@ fn ready(numbers: InitNumbers) {
     text::words(b" ocd");
     text::number(numbers.2 as u64);
     text::words(b" uv");
-    text::number(numbers.3 as u64);
+    text::signed_number(uv);
     text::words(b" ov");
-    text::number(numbers.4 as u64);
+    text::signed_number(ov);
     text::words(b"\n");
 }
 
@@ -44,17 +42,13 @@ pub fn signed_number(name: &[u8], n: i32) {
     text::words(b"\n");
 }
 
-fn wide(n: u32) -> u64 {
-    n as u64
-}
-
 // The first `count` of a list, or all where it has no more.
-pub fn numbers(name: &[u8], list: &[u32], count: usize) {
+pub fn signed_numbers(name: &[u8], list: &[i32], count: usize) {
     text::words(name);
     let mut i = 0;
     while i < list.len() {
         if i < count {
-            text::number(wide(list[i]));
+            text::signed_number(list[i]);
         }
         i += 1;
     }
@@ -78,14 +72,14 @@ pub fn small_numbers(name: &[u8], list: &[u8], count: usize) {
 }
 
 // The number at a place, where there is one.
-fn number_at(list: &[u32], i: usize) {
+fn number_at(list: &[i32], i: usize) {
     if i < list.len() {
-        text::number(wide(list[i]));
+        text::signed_number(list[i]);
     }
 }
 
 // The first `count` of two lists, each number of the first ahead of the one beside it.
-pub fn pairs(name: &[u8], first: &[u8], second: &[u32], count: usize) {
+pub fn pairs(name: &[u8], first: &[u8], second: &[i32], count: usize) {
     text::words(name);
     let mut i = 0;
     while i < first.len() {

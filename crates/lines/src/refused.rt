@@ -9,13 +9,15 @@ const SHOWN: usize = 16;
 // Its number, and as many of the two figures as it names.
 fn line(e: Error) {
     let numbers = e.in_numbers();
+    let first = numbers.2;
+    let second = numbers.3;
     text::words(b"refused");
     text::number(numbers.0 as u64);
     if 0 < numbers.1 {
-        text::number(numbers.2 as u64);
+        text::signed_number(first);
     }
     if 1 < numbers.1 {
-        text::number(numbers.3 as u64);
+        text::signed_number(second);
     }
     text::words(b"\n");
 }

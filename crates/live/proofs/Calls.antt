@@ -3,12 +3,12 @@
 -- Assumes nothing.
 use mathlib.Core.Path.{_≡_, refl, ap, ap₂, _∙_}
 use mathlib.Core.Bool.{not}
-use mathlib.Core.List.{List, [], map}
+use mathlib.Core.List.{List, []}
 use Prim.Native.Nat.{ℕ, _*_, _≤_, _<_}
 use native.Mathlib.Omega.{arith}
+use lib.IntN.{ℤ, pos}
 use lib.ListN.{replicate}
 use Rattle.refusals.specs.Refusal.{Answer, value, refused}
-use Rattle.units.specs.declared.MilliVolts.{MilliVolts}
 use Rattle.plan.specs.Steps.{stepsFor}
 use Rattle.plan.specs.Plan.{Values}
 use Rattle.plan.specs.InNumbers.{initNumbers}
@@ -32,7 +32,6 @@ use Rattle.firmware.specs.JobCells as by-list
 use Rattle.firmware.specs.JobCells.{Listed, storing, HandedList, jobCells, asList}
 use Rattle.firmware.specs.JobWired as by-wiring
 use Rattle.firmware.specs.JobWired.{Beside, HandedBoth, jobWired, asBoth}
-use Rattle.layout.specs.Cells.{cellOf}
 use Rattle.firmware.proofs.Positions.{tape-position, log-position}
 use Rattle.chip.specs.Live.{Used, usedBy}
 use Rattle.chip.proofs.Live.{live}
@@ -74,13 +73,13 @@ module _ (d : BQ769x0) where
   unfolding readInputs
   inputs-small = small-call 1 7 0 0 _ _ (small-read (d .link) 0x0C (2 * d .link .x)) (λ bytes. small-ret Refuses 0 0 _) refuses-by
 
-  cells-small : (list : List ℕ) → Small FilledOff 1 7 (cellVoltages d list)
+  cells-small : (list : List ℤ) → Small FilledOff 1 7 (cellVoltages d list)
   unfolding cellVoltages soundly cells.readCells
   cells-small list =
       small-if 1 7 (not (isSound d)) (small-ret FilledOff 1 7 _)
       (small-pure 1 7 _ _ _ λ x e. small-call 1 7 0 0 _ _ inputs-small (λ inputs. small-ret FilledOff 0 0 _) refuses-by)
 
-  wired-small : (inputs list : List ℕ) → Small (ShownOff inputs) 1 7 (wired d inputs list)
+  wired-small : (inputs : List ℕ) (list : List ℤ) → Small (ShownOff inputs) 1 7 (wired d inputs list)
   unfolding wired soundly wiring.readWired
   wired-small inputs list =
       small-if 1 7 (not (isSound d)) (small-ret (ShownOff inputs) 1 7 _)
@@ -92,16 +91,16 @@ module _ (list : List ℕ) where
   abbrev ListedOff : Listed → Type 0
   ListedOff a = a .list ≡ list
 
-  stored-off : (n : ℕ) (cells : List MilliVolts) (values : Values) (d : BQ769x0) (y : Answer Done) → Refuses y
-      → storing n cells list values d y .list ≡ list
-  stored-off n cells values d y (refuses-by r) = refl
+  stored-off : (n : ℕ) (mvs : List ℤ) (values : Values) (d : BQ769x0) (y : Answer Done) → Refuses y
+      → storing n mvs list values d y .list ≡ list
+  stored-off n mvs values d y (refuses-by r) = refl
 
   ready-small : (d : BQ769x0) (y : Answer Values) → Small ListedOff 1 7 (by-list.onlyReady list d y)
   unfolding by-list.readCells
   ready-small d (value values) =
       small-pure 1 7 _ _ _ λ x e.
-      small-bind 1 7 0 0 _ (cells-small d (replicate 15 0)) (λ read. small-ret ListedOff 0 0 _)
-      (λ read q. over (stored-off (d .«cell_count») (read .device .readings .cells) values (read .device) (read .answer) q))
+      small-bind 1 7 0 0 _ (cells-small d (replicate 15 (pos 0))) (λ read. small-ret ListedOff 0 0 _)
+      (λ read q. over (stored-off (d .«cell_count») (read .list) values (read .device) (read .answer) q))
   ready-small d (refused r) = small-ret ListedOff 1 7 _
 
   unready : (d : BQ769x0) (y : Answer Values) → Refuses y → Over ListedOff (by-list.onlyReady list d y)
@@ -121,10 +120,10 @@ module _ (list : List ℕ) where
     unfolding by-wiring.readWired
     ready-wired-small d (value values) =
         small-pure 1 7 _ _ _ λ x e.
-        small-bind 1 7 0 0 _ (wired-small d inputs (replicate 15 0)) (λ read. small-ret BesideOff 0 0 _)
+        small-bind 1 7 0 0 _ (wired-small d inputs (replicate 15 (pos 0))) (λ read. small-ret BesideOff 0 0 _)
         (λ read q. over (
           q .1,
-          stored-off (d .«cell_count») (map cellOf (read .list)) values (read .device) (read .answer) (q .0),
+          stored-off (d .«cell_count») (read .list) values (read .device) (read .answer) (q .0),
         ))
     ready-wired-small d (refused r) = small-ret BesideOff 1 7 _
 

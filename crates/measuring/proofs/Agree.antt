@@ -47,15 +47,15 @@ current-agree p b r r′ log log′ e e′ =
     (λ i. record { answer = same .0 i; at = same .1 i }, same .2)
 
 -- `voltage`
-volts : ℕ → VoltageAnswer
-volts n = Va.Volts (record { 0 = n })
+volts : ℤ → VoltageAnswer
+volts mv = Va.Volts (record { 0 = mv })
 
 voltage-undone : (a : VoltageAnswer) → answerBack volts Va.Refused (asVoltage a) ≡ a
 unfolding volts
 voltage-undone (Va.Volts voltage) = refl
 voltage-undone (Va.Refused e) = ap Va.Refused (undone e)
 
-pub voltage-agree : (p : Prog (Answer ℕ)) (b : Bus) (r r′ : VoltageRead) (log log′ : List ℕ)
+pub voltage-agree : (p : Prog (Answer ℤ)) (b : Bus) (r r′ : VoltageRead) (log log′ : List ℕ)
     → ran (asVoltage (r .answer)) (b .tape) log (r .at) ≡ onTape p b
     → ran (asVoltage (r′ .answer)) (b .tape) log′ (r′ .at) ≡ onTape p b
     → (r ≡ r′) × (log ≡ log′)

@@ -1,9 +1,8 @@
 -- The pack's current and voltage, as programs beside the crate's `current` and `voltage`.
 -- Assumes nothing.
-use Prim.Native.Nat.{ℕ}
 use mathlib.Core.Bool.{not}
 use lib.IntN.{ℤ}
-use Rattle.numbers.specs.Numbers.{asI16, asU32}
+use Rattle.numbers.specs.Numbers.{asI16}
 use Rattle.refusals.specs.Refusal.{Answer, value, refused, refusedIf, asRefusal, nine}
 use Rattle.adc.specs.Conversion.{milliamperes, packMillivolts}
 use Rattle.bus.specs.Programs.{Prog, ret, _orLeave_, _>>=_}
@@ -25,12 +24,12 @@ current d = soundly d (refused nine) (do
   cc ← readWord (d .link) 0x32 orLeave refused
   ret (milliamperes (asI16 cc) (d .shunt .0)))
 
-abbrev pub asVoltage : VoltageAnswer → Answer ℕ
+abbrev pub asVoltage : VoltageAnswer → Answer ℤ
 asVoltage (Va.Volts voltage) = value (voltage .0)
 asVoltage (Va.Refused e) = refused (asRefusal e)
 
 -- 2A and 2B: with five offsets, whatever the device
-unfoldable pub voltage : BQ769x0 → Prog (Answer ℕ)
+unfoldable pub voltage : BQ769x0 → Prog (Answer ℤ)
 voltage d = soundly d (refused nine) (do
   reading ← readWord (d .link) 0x2A orLeave refused
-  ret (value (asU32 (packMillivolts 5 (d .adc .gain) (d .adc .offset) reading))))
+  ret (value (packMillivolts 5 (d .adc .gain) (d .adc .offset) reading)))

@@ -3,19 +3,16 @@
 -- Assumes nothing.
 use mathlib.Core.Path.{_≡_, refl, sym, ap, _∙_}
 use mathlib.Core.Bool.{Bool, true, false, not, _&&_}
-use mathlib.Core.List.{List, [], _∷_, map, map-map}
+use mathlib.Core.List.{List, [], _∷_, map}
 use mathlib.Core.Logic.{_≢_}
-use Prim.Native.Nat.{ℕ, _-_, _<_}
+use Prim.Native.Nat.{ℕ, zero, suc, _-_, _≤_, _<_}
 use native.Mathlib.Omega.{arith}
-use lib.Dec.{eqb, eqb→eq, lit<}
-use lib.ListN.{length, take, getD, set, length-map, List·getD-map}
+use lib.Dec.{eqb, eqb→eq}
+use lib.ListN.{length, take, getD, set, List·getD-map}
 use lib.Seq.{set-comm, getD-set-other, ext-getD}
 use Rattle.laws.proofs.Tests.{below}
-use Rattle.units.specs.declared.MilliVolts.{MilliVolts}
-use Rattle.moves.specs.Moves.{Move, moves, movedIf, inTurn}
-use Rattle.moves.specs.Moves.{volts, firstCells, named, names, inputsOf}
-use Rattle.laws.proofs.Lists.{getD-any, map-set, map-take}
-use Rattle.moves.proofs.Front.{length-moved}
+use Rattle.moves.specs.Moves.{Move, moves, movedIf, inTurn, names, inputsOf}
+use Rattle.laws.proofs.Lists.{map-set, map-take}
 
 -- inputs, cells, and which inputs the answer lists, for every device and count
 abbrev Pack : Type 0
@@ -44,58 +41,40 @@ pub shown-inputs : map (λ (p : Pack). inputsOf (p .0) (p .1)) packs ≡ map (λ
 shown-inputs = refl
 
 -- ---- the crate's list is the readings of these inputs, whatever is read
-abbrev Within : List Move → Type 0
-Within [] = Unit {0}
-Within (m ∷ ms) = (m .from < 15) × Within ms
+module _ {A B : Type 0} (f : A → B) (none : A) where
+  moved-map : (t : Bool) (to from : ℕ) (l : List A)
+      → movedIf (f none) t to from (map f l) ≡ map f (movedIf none t to from l)
+  moved-map false to from l = refl
+  moved-map true to from l =
+      ap (set (map f l) to) (List·getD-map f l from none) ∙ sym (map-set f l to (getD l from none))
 
-module _ (f : MilliVolts → MilliVolts) where
-  moved-map : (m : Move) (l : List MilliVolts) → m .from < length l
-      → movedIf (m .when) (m .to) (m .from) (map f l) ≡ map f (movedIf (m .when) (m .to) (m .from) l)
-  moved-map m l h = by-test (m .when)
-    where
-      by-test : (t : Bool) → movedIf t (m .to) (m .from) (map f l) ≡ map f (movedIf t (m .to) (m .from) l)
-      by-test false = refl
-      by-test true =
-          let there : m .from < length (map f l) = rw (length-map l f) h in
-          let read =
-          getD-any (map f l) (m .from) (named 0) (f (named 0)) there
-          ∙ List·getD-map f l (m .from) (named 0) in
-          ap (set (map f l) (m .to)) read ∙ sym (map-set f l (m .to) (getD l (m .from) (named 0)))
+  -- what is moved can't be seen by the moves
+  pub turned-map : (ms : List Move) (l : List A) → inTurn (f none) ms (map f l) ≡ map f (inTurn none ms l)
+  turned-map [] l = refl
+  turned-map (m ∷ ms) l =
+      ap (inTurn (f none) ms) (moved-map (m .when) (m .to) (m .from) l)
+      ∙ turned-map ms (movedIf none (m .when) (m .to) (m .from) l)
 
-  turned-map : (ms : List Move) (l : List MilliVolts) → length l ≡ 15 → Within ms
-      → inTurn ms (map f l) ≡ map f (inTurn ms l)
-  turned-map [] l size within = refl
-  turned-map (m ∷ ms) l size within =
-      let size′ = length-moved (m .when) (m .to) (m .from) l ∙ size in
-      ap (inTurn ms) (moved-map m l (omega (arith, within .0)))
-      ∙ turned-map ms (movedIf (m .when) (m .to) (m .from) l) size′ (within .1)
+module _ {A : Type 0} (none : A) (cells : List A) where
+  -- the cell that a name names; 0 is none's
+  abbrev pub at : ℕ → A
+  at name = getD (none ∷ cells) name none
 
--- the moves take no cell from past the fifteenth
-within : (x n : ℕ) → Within (moves x n)
-within x n = (lit< tt, (lit< tt, (lit< tt, (lit< tt, (lit< tt, (lit< tt, tt))))))
+  pub at-input : (input : ℕ) → 1 ≤ input → at input ≡ getD cells (input - 1) none
+  at-input zero h = absurd (omega arith)
+  at-input (suc i) h = ap (λ (k : ℕ). getD cells k none) (omega arith)
 
-module _ (cells : List MilliVolts) where
-  -- the cell that a name names
-  abbrev at : MilliVolts → MilliVolts
-  at name = getD cells (name .0 - 1) (named 0)
-
-  named-at : (k : ℕ) → k < 15 → getD cells k (named 0) ≡ getD (map at (map named names)) k (named 0)
+  named-at : (k : ℕ) → k < 15 → getD cells k none ≡ getD (map at names) k none
   named-at k h =
-      let place = eqb→eq (getD names k 0 - 1) k (below 15 (λ i. eqb (getD names i 0 - 1) i) tt k h) in
-      sym (getD-any (map at (map named names)) k (named 0) (at (named 0)) h
-      ∙ List·getD-map at (map named names) k (named 0)
-      ∙ ap at (List·getD-map named names k 0)
-      ∙ ap (λ (i : ℕ). getD cells i (named 0)) place)
+      let name = eqb→eq (getD names k 0) (suc k) (below 15 (λ i. eqb (getD names i 0) (suc i)) tt k h) in
+      sym (List·getD-map at names k 0 ∙ ap at name)
 
-  pub shows : length cells ≡ 15 → (x n : ℕ)
-      → firstCells n (inTurn (moves x n) cells) ≡ map (λ (i : ℕ). at (named i) .0) (inputsOf x n)
+  pub shows : length cells ≡ 15 → (x n : ℕ) → take n (inTurn none (moves x n) cells) ≡ map at (inputsOf x n)
   shows size x n =
-      let shown = inTurn (moves x n) (map named names) in
-      let all : cells ≡ map at (map named names) = ext-getD (named 0) cells _ size λ k h. named-at k (omega arith) in
-      ap (λ (l : List MilliVolts). firstCells n (inTurn (moves x n) l)) all
-      ∙ ap (firstCells n) (turned-map at (moves x n) (map named names) refl (within x n))
-      ∙ ap (take n) (map-map volts at shown ∙ sym (map-map (λ (i : ℕ). at (named i) .0) volts shown))
-      ∙ sym (map-take (λ (i : ℕ). at (named i) .0) n (map volts shown))
+      let all : cells ≡ map at names = ext-getD none cells _ size λ k h. named-at k (omega arith) in
+      ap (λ (l : List A). take n (inTurn none (moves x n) l)) all
+      ∙ ap (take n) (turned-map at 0 (moves x n) names)
+      ∙ sym (map-take at n (inTurn 0 (moves x n) names))
 
 -- ---- no place that a move reads is one that a move writes
 abbrev apart : ℕ → List ℕ → Bool
@@ -111,14 +90,14 @@ pub sources-stay : (x n : ℕ)
 sources-stay x n = refl
 
 -- so two moves with different targets can change places
-pub either-first : (a b : Bool) (to from to′ from′ : ℕ) (cells : List MilliVolts)
+pub either-first : {A : Type 0} (none : A) (a b : Bool) (to from to′ from′ : ℕ) (cells : List A)
     → to ≢ to′ → from ≢ to′ → from′ ≢ to
-    → movedIf b to′ from′ (movedIf a to from cells) ≡ movedIf a to from (movedIf b to′ from′ cells)
-either-first true true to from to′ from′ cells h k l =
-    let read = getD-set-other cells to from′ (getD cells from (named 0)) (named 0) l in
-    let read′ = getD-set-other cells to′ from (getD cells from′ (named 0)) (named 0) k in
+    → movedIf none b to′ from′ (movedIf none a to from cells) ≡ movedIf none a to from (movedIf none b to′ from′ cells)
+either-first none true true to from to′ from′ cells h k l =
+    let read = getD-set-other cells to from′ (getD cells from none) none l in
+    let read′ = getD-set-other cells to′ from (getD cells from′ none) none k in
     rw (read, read′)
-    (set-comm cells to to′ (getD cells from (named 0)) (getD cells from′ (named 0)) h)
-either-first true false to from to′ from′ cells h k l = refl
-either-first false true to from to′ from′ cells h k l = refl
-either-first false false to from to′ from′ cells h k l = refl
+    (set-comm cells to to′ (getD cells from none) (getD cells from′ none) h)
+either-first none true false to from to′ from′ cells h k l = refl
+either-first none false true to from to′ from′ cells h k l = refl
+either-first none false false to from to′ from′ cells h k l = refl

@@ -3,10 +3,9 @@
 -- Assumes nothing.
 use Prim.Native.Nat.{ℕ}
 use mathlib.Core.Bool.{Bool, true, false, not, _&&_, _||_}
-use mathlib.Core.List.{List, [], _∷_, map}
+use mathlib.Core.List.{List, [], _∷_}
 use lib.Dec.{eqb}
 use lib.ListN.{take, getD, set}
-use Rattle.units.specs.declared.MilliVolts.{MilliVolts}
 
 pub record Move : Type 0 where
   pub when : Bool
@@ -32,27 +31,18 @@ moves x cc =
     move (eqb x 15 && sixth) 13 14 ∷
     []
 
-abbrev pub movedIf : Bool → ℕ → ℕ → List MilliVolts → List MilliVolts
-movedIf true to from cells = set cells to (getD cells from (record { 0 = 0 }))
-movedIf false to from cells = cells
+-- no move reads past the end of the cells, where it would find none
+abbrev pub movedIf : {A : Type 0} → A → Bool → ℕ → ℕ → List A → List A
+movedIf none true to from cells = set cells to (getD cells from none)
+movedIf none false to from cells = cells
 
-abbrev pub inTurn : List Move → List MilliVolts → List MilliVolts
-inTurn [] cells = cells
-inTurn (m ∷ ms) cells = inTurn ms (movedIf (m .when) (m .to) (m .from) cells)
+abbrev pub inTurn : {A : Type 0} → A → List Move → List A → List A
+inTurn none [] cells = cells
+inTurn none (m ∷ ms) cells = inTurn none ms (movedIf none (m .when) (m .to) (m .from) cells)
 
--- ---- a list of so many, as numbers
-abbrev pub volts : MilliVolts → ℕ
-volts cell = cell .0
-
-abbrev pub firstCells : ℕ → List MilliVolts → List ℕ
-firstCells n cells = take n (map volts cells)
-
--- ---- which inputs these are: each cell named by its input's number
-abbrev pub named : ℕ → MilliVolts
-named n = record { 0 = n }
-
+-- ---- which inputs the first n cells are then: each is named by its input's number
 abbrev pub names : List ℕ
 names = 1 ∷ 2 ∷ 3 ∷ 4 ∷ 5 ∷ 6 ∷ 7 ∷ 8 ∷ 9 ∷ 10 ∷ 11 ∷ 12 ∷ 13 ∷ 14 ∷ 15 ∷ []
 
 abbrev pub inputsOf : ℕ → ℕ → List ℕ
-inputsOf x n = firstCells n (inTurn (moves x n) (map named names))
+inputsOf x n = take n (inTurn 0 (moves x n) names)

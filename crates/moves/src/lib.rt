@@ -1,11 +1,11 @@
 // The moves of the crate's `cell_voltages`, in its order: by X and the count alone, one cell goes over another.
 ghost use mathlib.Core.Path.{_≡_};
-ghost use mathlib.Core.List.{map};
-ghost use Rattle.moves.specs.Moves.{moves, inTurn, named};
+ghost use lib.IntN.{pos};
+ghost use Rattle.moves.specs.Moves.{moves, inTurn};
 
 // In place, on the cells' numbers. With 15 cells nothing moves, and no test below is made.
-pub fn in_turn(x: u8, cell_count: u8, cells: &mut [u32; 16])
-    ensures { λ _. ⌜ map named (now (cells .exit)) ≡ inTurn (moves x «cell_count») (map named (now (cells .entry))) ⌝ }
+pub fn in_turn(x: u8, cell_count: u8, cells: &mut [i32; 16])
+    ensures { λ _. ⌜ now (cells .exit) ≡ inTurn (pos 0) (moves x «cell_count») (now (cells .entry)) ⌝ }
 {
     let cc = cell_count;
     if cc == 15 {

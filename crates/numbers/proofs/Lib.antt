@@ -1,3 +1,4 @@
+pub mod Between
 pub mod Bytes
 pub mod Casts
 pub mod Signed

@@ -40,6 +40,9 @@ asI8 = twos 128
 abbrev pub asI16 : ℕ → ℤ
 asI16 = twos 32768
 
+abbrev pub asI32 : ℕ → ℤ
+asI32 = twos 2147483648
+
 -- ---- bytes, the high one first: two, four and eight as a number, and a number below 2^32 or 2^64 as bytes
 abbrev pub word : ℕ → ℕ → ℕ
 word high low = high * 256 + low

@@ -1,7 +1,7 @@
 // The crate's casts between signed and unsigned numbers, and numbers as bytes, high byte first.
 ghost use mathlib.Core.Path.{_≡_};
 ghost use Prim.Native.Nat.{_*_, _≤_, _<_};
-ghost use Rattle.numbers.specs.Numbers.{word, word4, word8, four, eight, twos, asI8, asI16, asU32};
+ghost use Rattle.numbers.specs.Numbers.{word, word4, word8, four, eight, twos, asI8, asI16, asI32, asU32};
 
 pub fn be_u16(high: u8, low: u8) -> u16
     ensures { λ r. ⌜ r ≡ word high low ⌝ }
@@ -60,24 +60,31 @@ pub fn u64_bytes(n: u64) -> [u8; 8]
 pub fn as_i8(byte: u8) -> i8
     ensures { λ r. ⌜ r ≡ asI8 byte ⌝ }
 {
-    from_twos(byte as u16, 128) as i8
+    from_twos(byte as u32, 128) as i8
 }
 
 // `n as i16` of Rust.
 pub fn as_i16(n: u16) -> i16
     ensures { λ r. ⌜ r ≡ asI16 n ⌝ }
 {
-    from_twos(n, 32768) as i16
+    from_twos(n as u32, 32768) as i16
 }
 
-fn from_twos(n: u16, half: u16) -> i32
-    requires { ⌜ (half ≤ 32768) × (n < 2 * half) ⌝ }
+// `n as i32` of Rust.
+pub fn as_i32(n: u32) -> i32
+    ensures { λ r. ⌜ r ≡ asI32 n ⌝ }
+{
+    from_twos(n, 2147483648) as i32
+}
+
+fn from_twos(n: u32, half: u32) -> i64
+    requires { ⌜ (half ≤ 2147483648) × (n < 2 * half) ⌝ }
     ensures { λ r. ⌜ r ≡ twos half n ⌝ }
 {
     if n < half {
-        n as i32
+        n as i64
     } else {
-        n as i32 - 2 * half as i32
+        n as i64 - 2 * half as i64
     }
 }
 

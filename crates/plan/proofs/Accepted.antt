@@ -29,7 +29,7 @@ unfolding _andThen_
 first (value x) next e = (x, (refl, e))
 first (refused r) next e = refused-not e
 
-code-is : (gain : ℕ) (offset : ℤ) (asked : ℕ) {n : ℕ} → tripCodeFor gain offset asked ≡ value n → tripCode (readingOf gain offset asked) ≡ n
+code-is : (gain : ℕ) (offset asked : ℤ) {n : ℕ} → tripCodeFor gain offset asked ≡ value n → tripCode (readingOf gain offset asked) ≡ n
 unfolding tripCodeFor _andThen_
 code-is gain offset asked {n} e = by-test (eqb gain 0) e
   where

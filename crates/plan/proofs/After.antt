@@ -2,12 +2,13 @@
 -- Assumes nothing.
 use mathlib.Core.Path.{_≡_, refl, ap, sym, _∙_}
 use mathlib.Core.Bool.{Bool, false, true≢false, not, _&&_}
+use mathlib.Core.List.{[]}
 use Prim.Native.Nat.{ℕ, _<_}
 use native.Mathlib.Omega.{arith}
 use lib.Dec.{eqb}
 use lib.IntN.{ℤ}
-use borrow.Author.Tests.{ne-eqb}
-use Rattle.refusals.specs.Refusal.{Answer, value, refused}
+use borrow.Author.Tests.{eq-eqb, ne-eqb}
+use Rattle.refusals.specs.Refusal.{Answer, value, refused, no}
 use Rattle.protection.specs.Ranges.{rangeFor, forBoth}
 use Rattle.protection.specs.Steps.{scdLower, scdUpper, ocdLower, ocdUpper}
 use Rattle.protection.specs.declared.range.OCDSCDRange.{OCDSCDRange}
@@ -19,16 +20,21 @@ use Rattle.plan.specs.Steps.{badShunt}
 use Rattle.plan.specs.Trips.{tripCodeFor, withinFor}
 use Rattle.plan.specs.declared.Config.{Config}
 use Rattle.plan.proofs.Only.{Only, range-only, protect-only}
-use Rattle.plan.proofs.Order.{past}
+use Rattle.plan.proofs.Order.{past, out}
 use Rattle.plan.proofs.Shunt.{good}
 
 -- the code of an asked voltage, where the gain is not 0
-abbrev pub codeOf : ℕ → ℤ → ℕ → ℕ
+abbrev pub codeOf : ℕ → ℤ → ℤ → ℕ
 codeOf gain offset asked = tripCode (readingOf gain offset asked)
 
-code-given : (gain : ℕ) (offset : ℤ) (asked : ℕ) → 0 < gain → tripCodeFor gain offset asked ≡ value (codeOf gain offset asked)
+code-given : (gain : ℕ) (offset asked : ℤ) → 0 < gain → tripCodeFor gain offset asked ≡ value (codeOf gain offset asked)
 unfolding tripCodeFor _andThen_
 code-given gain offset asked h = simp (ne-eqb gain 0 (omega arith))
+
+-- and where it is 0
+code-none : (gain : ℕ) (offset asked : ℤ) → gain ≡ 0 → tripCodeFor gain offset asked ≡ refused (no 9 [])
+unfolding tripCodeFor _andThen_
+code-none gain offset asked e = simp (eq-eqb gain 0 e)
 
 -- the range for two steps in mV
 abbrev pub choice : ℕ → ℕ → Answer OCDSCDRange
@@ -38,10 +44,10 @@ pub choice-only : (scd ocd : ℕ) → Only 6 (choice scd ocd)
 choice-only scd ocd = range-only (rangeFor scdLower scdUpper scd) (rangeFor ocdLower ocdUpper ocd)
 
 module _ (gain : ℕ) (offset : ℤ) (config : Config) (scd ocd : ℕ) where
-  abbrev pub ov : ℕ
+  abbrev pub ov : ℤ
   ov = config .«ov_threshold» .0
 
-  abbrev pub uv : ℕ
+  abbrev pub uv : ℤ
   uv = config .«uv_threshold» .0
 
   abbrev pub settled : OCDSCDRange → Answer Planned
@@ -49,6 +55,10 @@ module _ (gain : ℕ) (offset : ℤ) (config : Config) (scd ocd : ℕ) where
 
   abbrev pub rest : OCDSCDRange → Answer Planned
   rest range = withinFor gain offset ov uv andThen λ _. settled range
+
+  pub only-9 : badShunt (config .shunt .0) ≡ false → gain ≡ 0 → planFor gain offset config scd ocd ≡ refused (no 9 [])
+  unfolding planFor
+  only-9 shunt e = past _ _ (good _ shunt) ∙ out _ (code-none gain offset ov e)
 
   pub past-9 : badShunt (config .shunt .0) ≡ false → 0 < gain → planFor gain offset config scd ocd ≡ choice scd ocd andThen rest
   unfolding planFor

@@ -26,9 +26,9 @@ config = record {
   «ocd_delay» = O.«_320ms»;
   «ocd_threshold» = record { 0 = 20 };
   «uv_delay» = U.«_4s»;
-  «uv_threshold» = record { 0 = 2800 };
+  «uv_threshold» = record { 0 = pos 2800 };
   «ov_delay» = W.«_4s»;
-  «ov_threshold» = record { 0 = 4200 };
+  «ov_threshold» = record { 0 = pos 4200 };
 }
 
 pub steps : stepsFor config ≡ value (record { scd = 56; ocd = 22 })
@@ -39,7 +39,7 @@ pub plan :
     planFor 365 (pos 0) config 56 22
     ≡ value
     (record {
-      values = record { range = R.Lower; scd = 56; ocd = 22; uv = 2797; ov = 4201 };
+      values = record { range = R.Lower; scd = 56; ocd = 22; uv = pos 2797; ov = pos 4201 };
       regs = 0x13 ∷ 0x55 ∷ 0x50 ∷ 0xCF ∷ 0xDF ∷ 0x19 ∷ [];
     })
 unfolding planFor setFor _andThen_ shuntFor tripCodeFor rangeFor codeFor obtainableOr withinFor protectFor

@@ -49,7 +49,7 @@ step-only xs amperes shunt = by-test (ltb (amperes * shunt) 256000)
     by-test true = value-only 13 _
     by-test false = refused-only 13
 
-pub code-only : (gain : ℕ) (offset : ℤ) (asked : ℕ) → Only 9 (tripCodeFor gain offset asked)
+pub code-only : (gain : ℕ) (offset asked : ℤ) → Only 9 (tripCodeFor gain offset asked)
 unfolding tripCodeFor
 code-only gain offset asked = then-only 9 _ _ (if-only 9 (eqb gain 0) _) (λ reading. value-only 9 _)
 

@@ -46,7 +46,7 @@ module _ (gain : ℕ) (offset : ℤ) (config : Config) (scd ocd : ℕ) where
       let ok = code-few range ocdLower ocdUpper ocd refl in
       let u = uv-delay< (config .«uv_delay») in
       let o = ov-delay< (config .«ov_delay») in
-      let trip : (mv : ℕ) → tripCode (readingOf gain offset mv) < 256 = λ mv. rest< (readingOf gain offset mv ÷↓ 16) 256 (omega arith) in
+      let trip : (mv : ℤ) → tripCode (readingOf gain offset mv) < 256 = λ mv. rest< (readingOf gain offset mv ÷↓ 16) 256 (omega arith) in
       (omega arith, (omega arith, (omega arith, (trip (config .«ov_threshold» .0), (trip (config .«uv_threshold» .0), (omega arith, tt))))))
 
   module _ (plan : Planned) (e : planFor gain offset config scd ocd ≡ value plan) where

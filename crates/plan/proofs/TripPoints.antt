@@ -10,7 +10,6 @@ use Prim.Native.Nat.{ℕ, _+_, _*_, _/_, _≤_, _<_}
 use native.Mathlib.Omega.{arith}
 use lib.IntN.{ℤ, pos}
 use lib.Signed.{mag}
-use Rattle.numbers.specs.Numbers.{asU32}
 use Rattle.refusals.specs.Refusal.{value}
 use Rattle.protection.specs.Scd as scd
 use Rattle.protection.specs.Ocd as ocd
@@ -60,18 +59,18 @@ module _
       pub uv-wraps : uv-asked .reading < 0x1000 → readBack (p .regs) .uvTrip ≡ 0xFF
       uv-wraps below = uv-code ∙ ap tripCode (uv-asked .is) ∙ omega (arith, uv-asked .least)
 
-    pub ov-reported : p .values .ov ≡ asU32 (millivolts gain offset (ovTrip (readBack (p .regs) .ovTrip)))
+    pub ov-reported : p .values .ov ≡ millivolts gain offset (ovTrip (readBack (p .regs) .ovTrip))
     ov-reported =
         let plan = accepted gain offset config (scd.mvOf s) (ocd.mvOf o) e in
         sym (ap (λ (p : Planned). p .values .ov) (plan .1 .1))
-        ∙ ap (λ (code : ℕ). asU32 (millivolts gain offset (ovTrip code))) (sym ov-code)
+        ∙ ap (λ (code : ℕ). millivolts gain offset (ovTrip code)) (sym ov-code)
 
-    pub uv-reported : p .values .uv ≡ asU32 (millivolts gain offset (uvTrip (readBack (p .regs) .uvTrip)))
+    pub uv-reported : p .values .uv ≡ millivolts gain offset (uvTrip (readBack (p .regs) .uvTrip))
     uv-reported =
         let plan = accepted gain offset config (scd.mvOf s) (ocd.mvOf o) e in
         sym (ap (λ (p : Planned). p .values .uv) (plan .1 .1))
-        ∙ ap (λ (code : ℕ). asU32 (millivolts gain offset (uvTrip code))) (sym uv-code)
+        ∙ ap (λ (code : ℕ). millivolts gain offset (uvTrip code)) (sym uv-code)
 
 -- the exception is met: at a gain of 373 and an offset of 0 the lower limit is 1527 mV, whose reading is 0FFD hex
-pub wraps-at : (obtainable 1527 (uvLimits 373 (pos 0)) ≡ true) × (readingOf 373 (pos 0) 1527 ≡ pos 0x0FFD)
+pub wraps-at : (obtainable (pos 1527) (uvLimits 373 (pos 0)) ≡ true) × (readingOf 373 (pos 0) (pos 1527) ≡ pos 0x0FFD)
 wraps-at = (refl, refl)

@@ -36,7 +36,7 @@ no-other n not-8 not-7 true true f g = refl
 no-other n not-8 not-7 true false f g = not-7
 no-other n not-8 not-7 false b f g = not-8
 
-module _ (gain : ℕ) (offset : ℤ) (ov uv : ℕ) where
+module _ (gain : ℕ) (offset ov uv : ℤ) where
   abbrev a : Bool
   a = obtainable ov (ovLimits gain offset)
 

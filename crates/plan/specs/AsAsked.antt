@@ -15,7 +15,7 @@ use Rattle.plan.specs.Steps.{scdStep, ocdStep}
 use Rattle.plan.specs.declared.Config.{Config}
 
 -- the reading of an asked voltage, rounded down, and that it is from low to high
-pub record AskedIn (gain : ℕ) (offset : ℤ) (asked low high : ℕ) : Type 0 where
+pub record AskedIn (gain : ℕ) (offset asked : ℤ) (low high : ℕ) : Type 0 where
   pub reading : ℕ
   pub is : readingOf gain offset asked ≡ pos reading
   pub least : low ≤ reading

@@ -3,7 +3,6 @@
 use Prim.Native.Nat.{ℕ, _*_, _/_}
 use mathlib.Core.List.{List, [], _∷_}
 use lib.IntN.{ℤ}
-use Rattle.numbers.specs.Numbers.{asU32}
 use Rattle.refusals.specs.Refusal.{Answer, value, refused, asRefusal}
 use Rattle.protection.specs.Ranges.{rangeFor, forBoth}
 use Rattle.protection.specs.Steps.{scdLower, scdUpper, ocdLower, ocdUpper}
@@ -25,8 +24,8 @@ pub record Values : Type 0 where
   pub range : OCDSCDRange
   pub scd : ℕ
   pub ocd : ℕ
-  pub uv : ℕ
-  pub ov : ℕ
+  pub uv : ℤ
+  pub ov : ℤ
 
 pub record Planned : Type 0 where
   pub values : Values
@@ -38,8 +37,8 @@ valuesFor gain offset shunt scd ocd range ovCode uvCode = record {
   range = range;
   scd = scd * 1000 / shunt;
   ocd = ocd * 1000 / shunt;
-  uv = asU32 (millivolts gain offset (uvTrip uvCode));
-  ov = asU32 (millivolts gain offset (ovTrip ovCode));
+  uv = millivolts gain offset (uvTrip uvCode);
+  ov = millivolts gain offset (ovTrip ovCode);
 }
 
 -- 06, 07 and 08, then OV_TRIP (09), UV_TRIP (0A) and CC_CFG (0B)

@@ -6,7 +6,7 @@ ghost use Rattle.plan.specs.InNumbers.{rangeNumber, initNumbers};
 use crate::InitAnswer;
 use protection::range::OCDSCDRange;
 
-// The range, SCD A, OCD A, UV mV, OV mV; of a refusal the count of its figures, and then these.
+// The range, SCD A, OCD A, UV mV, OV mV; of a refusal the count of its figures, and then these; below zero in two's complement.
 pub struct InitNumbers(pub u32, pub u32, pub u32, pub u32, pub u32);
 
 fn range_number(range: OCDSCDRange) -> u32
@@ -36,17 +36,27 @@ impl InitAnswer {
         match self {
             InitAnswer::Ready(v) => {
                 let range = v.ocdscd_range_used;
+                let uv = v.uv_threshold.0;
+                let ov = v.ov_threshold.0;
                 InitNumbers(
                     range_number(range),
                     v.scd_threshold.0,
                     v.ocd_threshold.0,
-                    v.uv_threshold.0,
-                    v.ov_threshold.0,
+                    numbers::as_u32(uv),
+                    numbers::as_u32(ov),
                 )
             }
             InitAnswer::Refused(e) => {
                 let numbers = e.in_numbers();
-                InitNumbers(numbers.1 as u32, numbers.2, numbers.3, 0, 0)
+                let first = numbers.2;
+                let second = numbers.3;
+                InitNumbers(
+                    numbers.1 as u32,
+                    numbers::as_u32(first),
+                    numbers::as_u32(second),
+                    0,
+                    0,
+                )
             }
         }
     }

@@ -1,7 +1,8 @@
 // What `init` writes and reports for a configuration: the middle of the crate's `init`, which makes no transfer.
 ghost use mathlib.Core.Path.{_≡_};
 ghost use Prim.Native.Nat.{_<_, _≤_};
-ghost use Rattle.protection.specs.Answers.{asCode, asRange};
+ghost use Rattle.protection.specs.Answers.{asRange};
+ghost use Rattle.adc.specs.Trips.{readingOf, tripCode};
 ghost use Rattle.protection.specs.Ranges.{rangeFor, forBoth};
 ghost use Rattle.protection.specs.Steps.{scdLower, scdUpper, ocdLower, ocdUpper};
 ghost use Rattle.protection.specs.Scd as scd;
@@ -10,7 +11,7 @@ ghost use Rattle.refusals.specs.Refusal.{refused, asRefusal};
 ghost use Rattle.plan.specs.Plan.{planFor, withBytes, asPlan, setFor, valuesFor, asValues};
 ghost use Rattle.plan.specs.Registers.{protectOf, protectFor};
 ghost use Rattle.plan.specs.Inside.{asProtect};
-ghost use Rattle.plan.specs.Trips.{tripCodeFor, obtainable, withinFor};
+ghost use Rattle.plan.specs.Trips.{obtainable, withinFor};
 ghost use Rattle.plan.specs.Inside.{asWithin};
 use crate::CalculatedValues;
 use crate::Config;
@@ -37,20 +38,15 @@ pub fn plan(adc: AdcTransferFunction, config: Config, steps: Steps) -> Plan
     if crate::bad_shunt(shunt) {
         return refused(Error::BadShunt);
     }
-    let ov_code = trip_code(adc, config.ov_threshold);
-    let Code::Bits(ov_bits) = ov_code else {
+    if adc.gain == 0 {
         return refused(Error::BadDevice);
-    };
-    let uv_code = trip_code(adc, config.uv_threshold);
-    let Code::Bits(uv_bits) = uv_code else {
-        return refused(Error::BadDevice);
-    };
+    }
     let range = range_to_use(steps);
     let RangeAnswer::Use(range_to_use) = range else {
         return refused(Error::OCDSCDRangeMismatch);
     };
     match within_limits(adc, config) {
-        Within::Both => set(adc, config, steps, range_to_use, ov_bits, uv_bits),
+        Within::Both => with_trips(adc, config, steps, range_to_use),
         Within::Refused(e) => refused(e),
     }
 }
@@ -75,15 +71,16 @@ fn range_to_use(steps: Steps) -> RangeAnswer
     range::range_to_use(scd.range(), ocd.range())
 }
 
-// The code of the trip register for an asked voltage.
-fn trip_code(adc: AdcTransferFunction, asked: MilliVolts) -> Code
-    ensures { λ r. ⌜ asCode r ≡ tripCodeFor (adc .gain) (adc .offset) (asked .0) ⌝ }
+// The code of the trip register for an asked voltage; its reading is refused at a gain of 0 alone.
+fn trip_code(adc: AdcTransferFunction, asked: MilliVolts) -> u8
+    requires { ⌜ 0 < adc .gain ⌝ }
+    ensures { λ r. ⌜ r ≡ tripCode (readingOf (adc .gain) (adc .offset) (asked .0)) ⌝ }
 {
     let trip_full = adc.asked_reading(asked);
     let Asked::Reading(reading) = trip_full else {
-        return Code::Refused(Error::BadDevice);
+        return 0;
     };
-    Code::Bits(trips::trip_code(reading))
+    trips::trip_code(reading)
 }
 
 // Whether both asked voltages are within what the trip registers can stand for.
@@ -186,6 +183,20 @@ fn values(
         uv_threshold: adc.apply(trips::uv_trip_reading(uv_bits)),
         ov_threshold: adc.apply(trips::ov_trip_reading(ov_bits)),
     }
+}
+
+// With the codes of both voltages.
+fn with_trips(adc: AdcTransferFunction, config: Config, steps: Steps, range: OCDSCDRange) -> Plan
+    requires { ⌜ (0 < config .shunt .0) × (0 < adc .gain) ⌝ }
+    ensures { λ r. ⌜ asPlan r
+        ≡ withBytes
+        (setFor (adc .gain) (adc .offset) config (scd.mvOf (steps .scd)) (ocd.mvOf (steps .ocd)) range
+        (tripCode (readingOf (adc .gain) (adc .offset) (config .«ov_threshold» .0)))
+        (tripCode (readingOf (adc .gain) (adc .offset) (config .«uv_threshold» .0)))) ⌝ }
+{
+    let ov_bits = trip_code(adc, config.ov_threshold);
+    let uv_bits = trip_code(adc, config.uv_threshold);
+    set(adc, config, steps, range, ov_bits, uv_bits)
 }
 
 fn set(

@@ -47,9 +47,9 @@ config = record {
   «ocd_delay» = OD.«_320ms»;
   «ocd_threshold» = record { 0 = 20 };
   «uv_delay» = UD.«_4s»;
-  «uv_threshold» = record { 0 = 2800 };
+  «uv_threshold» = record { 0 = pos 2800 };
   «ov_delay» = VD.«_4s»;
-  «ov_threshold» = record { 0 = 4200 };
+  «ov_threshold» = record { 0 = pos 4200 };
 }
 
 -- ---- what the bus says: to the reads of 50 and 59, and to the writes of 06 and 05 with what stands before and after them
@@ -89,7 +89,7 @@ log = readsLog ++ sixLog ++ counterLog 0x40
 
 -- ---- what is reported, and the record: gain 365, offset 0; then the shunt and the mark
 abbrev pub values : Values
-values = record { range = R.Lower; scd = 56; ocd = 22; uv = 2797; ov = 4201 }
+values = record { range = R.Lower; scd = 56; ocd = 22; uv = pos 2797; ov = pos 4201 }
 
 abbrev calibrated : BQ769x0
 calibrated = withCalibration device (record { gain = 365; offset = pos 0 })

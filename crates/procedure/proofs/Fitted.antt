@@ -6,9 +6,8 @@ use mathlib.Core.List.{List, map}
 use Prim.Native.Nat.{ℕ, _-_, _≤_, _<_}
 use native.Mathlib.Omega.{arith}
 use lib.IntN.{ℤ, pos}
-use lib.ListN.{take, getD, List·getD-map}
+use lib.ListN.{take, getD}
 use lib.Seq.{getD-take}
-use Rattle.numbers.specs.Numbers.{asU32}
 use Rattle.wiring.specs.Tables.{fitted}
 use Rattle.wiring.specs.Questions.{fifteen}
 use Rattle.wiring.proofs.Rows.{as-many, row-within, row-first, row-at}
@@ -44,12 +43,11 @@ module _ (d : BQ769x0) (sound : isSound d ≡ true) where
   listed-inputs e = rw (e, row-first x n (sound-pack d sound))
 
   -- each by its number, from 1, where the first X numbers are a reading's
-  pub listed-volts : {row : List ℕ} (readings : List ℤ) (inputs : List ℕ) → row ≡ fifteen (fitted x n)
-      → take x inputs ≡ map asU32 readings
-      → map (λ (input : ℕ). getD inputs (input - 1) 0) (take n row) ≡ voltages x n readings
+  pub listed-volts : {row : List ℕ} (readings inputs : List ℤ) → row ≡ fifteen (fitted x n)
+      → take x inputs ≡ readings
+      → map (ofInput inputs) (take n row) ≡ voltages x n readings
   listed-volts readings inputs e read =
-      ap (map (λ (input : ℕ). getD inputs (input - 1) 0)) (listed-inputs e)
-      ∙ of-fitted (λ (input : ℕ). getD inputs (input - 1) 0) (ofInput readings) λ input low high.
-      sym (getD-take x inputs (input - 1) 0 (omega arith))
-      ∙ ap (λ (l : List ℕ). getD l (input - 1) 0) read
-      ∙ List·getD-map asU32 readings (input - 1) (pos 0)
+      ap (map (ofInput inputs)) (listed-inputs e)
+      ∙ of-fitted (ofInput inputs) (ofInput readings) λ input low high.
+      sym (getD-take x inputs (input - 1) (pos 0) (omega arith))
+      ∙ ap (λ (l : List ℤ). ofInput l input) read

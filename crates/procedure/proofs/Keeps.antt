@@ -6,6 +6,7 @@ use mathlib.Core.Bool.{Bool, true, false, true≢false, not, _&&_, _||_, and-eq-
 use mathlib.Core.List.{List}
 use Prim.Native.Nat.{ℕ, _≤_, min}
 use lib.Dec.{eqb, ltb}
+use lib.IntN.{ℤ}
 use lib.ListN.{length, getD}
 use borrow.Author.Tests.{le-leb, ltb-false, ne-eqb}
 use native.Mathlib.Omega.{arith}
@@ -141,7 +142,7 @@ module _ (d : BQ769x0) (b : Bus) (e : isSound d ≡ true) where
   still-sound : (readings : Readings) → isSound (withReadings d readings) ≡ true
   still-sound readings = readings-sound d readings ∙ e
 
-  pub cells-keep : (list : List ℕ) → isSound (onTape (cellVoltages d list) b .answer .device) ≡ true
+  pub cells-keep : (list : List ℤ) → isSound (onTape (cellVoltages d list) b .answer .device) ≡ true
   unfolding cellVoltages readCells
   cells-keep list =
       by-call d (length list) (untouched d list) (λ inputs. listed (taking d inputs) list) b
@@ -149,7 +150,7 @@ module _ (d : BQ769x0) (b : Bus) (e : isSound d ≡ true) where
       (λ r b′. still-sound (untouched d list r .device .readings))
       (λ sound bytes b′ read. still-sound (taking d (converted (d .adc) bytes) .readings))
 
-  pub wired-keeps : (inputs list : List ℕ) → isSound (onTape (wired d inputs list) b .answer .device) ≡ true
+  pub wired-keeps : (inputs : List ℕ) (list : List ℤ) → isSound (onTape (wired d inputs list) b .answer .device) ≡ true
   unfolding wired readWired
   wired-keeps inputs list =
       by-call d (min (length inputs) (length list)) (unshown d inputs list) (showing d inputs list) b

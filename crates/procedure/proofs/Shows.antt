@@ -4,17 +4,17 @@ use mathlib.Core.Path.{_≡_, refl}
 use Prim.Native.Nat.{ℕ}
 use native.Mathlib.Omega.{arith}
 use mathlib.Core.List.{List}
+use lib.IntN.{ℤ}
 use lib.ListN.{length}
 use Rattle.refusals.specs.Refusal.{value}
 use Rattle.bus.specs.Transfers.{Bus}
 use Rattle.bus.specs.Programs.{Ran, onTape}
 use Rattle.bq769x0.specs.declared.BQ769x0.{BQ769x0}
 use Rattle.laws.specs.Over.{_over_}
-use Rattle.moves.specs.Moves.{firstCells}
-use Rattle.procedure.specs.Cells.{Filled, taking, untouched, listed, readCells, cellVoltages}
+use Rattle.procedure.specs.Cells.{Filled, taking, untouched, firstCells, listed, readCells, cellVoltages}
 use Rattle.procedure.proofs.Reading.{by-call}
 
-module _ (d : BQ769x0) (list : List ℕ) where
+module _ (d : BQ769x0) (list : List ℤ) where
   abbrev pub Shows : Ran Filled → Type 0
   Shows x =
       x .answer .answer ≡ value tt

@@ -4,6 +4,7 @@ use mathlib.Core.Path.{_≡_, refl}
 use mathlib.Core.List.{List}
 use Prim.Native.Nat.{ℕ, min}
 use native.Mathlib.Omega.{arith}
+use lib.IntN.{ℤ}
 use lib.ListN.{length}
 use Rattle.refusals.specs.Refusal.{Refusal, refused}
 use Rattle.bus.specs.Transfers.{Bus}
@@ -13,7 +14,7 @@ use Rattle.procedure.specs.Cells.{Filled, taking, untouched, listed, rea
 use Rattle.procedure.specs.Wired.{Shown, unshown, showing, readWired, wired}
 use Rattle.procedure.proofs.Reading.{by-call}
 
-module _ (d : BQ769x0) (list : List ℕ) where
+module _ (d : BQ769x0) (list : List ℤ) where
   abbrev pub Unfilled : Ran Filled → Type 0
   Unfilled x = (r : Refusal) → x .answer .answer ≡ refused r → (x .answer .device ≡ d) × (x .answer .list ≡ list)
 
@@ -24,7 +25,7 @@ module _ (d : BQ769x0) (list : List ℕ) where
       (λ r b′ s e. (refl, refl))
       (λ sound bytes b′ read s e. absurd (let z : _≡_ {A = ℕ} 0 1 = cc in omega arith))
 
-module _ (d : BQ769x0) (inputs list : List ℕ) where
+module _ (d : BQ769x0) (inputs : List ℕ) (list : List ℤ) where
   abbrev pub Unshown : Ran Shown → Type 0
   Unshown x =
       (r : Refusal) → x .answer .answer ≡ refused r

@@ -3,7 +3,7 @@
 use Prim.Native.Nat.{ℕ, _*_}
 use mathlib.Core.List.{List, [], _∷_, map}
 use lib.IntN.{ℤ}
-use Rattle.numbers.specs.Numbers.{word, asU32}
+use Rattle.numbers.specs.Numbers.{word}
 use Rattle.refusals.specs.Refusal.{Answer, value, refused}
 use Rattle.adc.specs.Conversion.{millivolts}
 use Rattle.adc.specs.declared.transfer.AdcTransferFunction.{AdcTransferFunction}
@@ -18,13 +18,13 @@ readings [] = []
 readings (high ∷ []) = []
 readings (high ∷ low ∷ bytes) = word high low ∷ readings bytes
 
--- the exact quotients, with their signs
+-- in mV, with their signs
 abbrev pub converted : AdcTransferFunction → List ℕ → List ℤ
 converted adc bytes = map (millivolts (adc .gain) (adc .offset)) (readings bytes)
 
--- as the record holds them, below zero 2^32 less the size
+-- as the record holds them
 abbrev pub asCell : ℤ → MilliVolts
-asCell z = record { 0 = asU32 z }
+asCell mv = record { 0 = mv }
 
 abbrev pub asCells : List ℤ → List MilliVolts
 asCells = map asCell

@@ -6,7 +6,7 @@ use mathlib.Core.List.{List, map}
 use lib.IntN.{ℤ, pos}
 use lib.ListN.{length, getD}
 use Rattle.laws.specs.Over.{_over_}
-use Rattle.numbers.specs.Numbers.{word, asU32}
+use Rattle.numbers.specs.Numbers.{word}
 use Rattle.refusals.specs.Refusal.{Refusal, Answer, value, refused, nine}
 use Rattle.adc.specs.Conversion.{millivolts}
 use Rattle.adc.specs.declared.transfer.AdcTransferFunction.{AdcTransferFunction}
@@ -26,45 +26,45 @@ highOf input = 0x0C + 2 * (input - 1)
 abbrev pub byteOf : List ℕ → ℕ → ℕ
 byteOf bytes register = getD bytes (register - 0x0C) 0
 
-abbrev pub ofRegisters : AdcTransferFunction → List ℕ → ℕ → ℕ
+abbrev pub ofRegisters : AdcTransferFunction → List ℕ → ℕ → ℤ
 ofRegisters adc bytes input =
-    asU32 (millivolts (adc .gain) (adc .offset) (word (byteOf bytes (highOf input)) (byteOf bytes (highOf input + 1))))
+    millivolts (adc .gain) (adc .offset) (word (byteOf bytes (highOf input)) (byteOf bytes (highOf input + 1)))
 
 -- ---- an answer, and the record and the caller's two lists then
 pub record Shown : Type 0 where
   pub answer : Answer Done
   pub device : BQ769x0
   pub inputs : List ℕ
-  pub list : List ℕ
+  pub list : List ℤ
 
-abbrev pub shown : Answer Done → BQ769x0 → List ℕ → List ℕ → Shown
+abbrev pub shown : Answer Done → BQ769x0 → List ℕ → List ℤ → Shown
 shown a d inputs list = record { answer = a; device = d; inputs = inputs; list = list }
 
 -- nothing of record and lists is touched
-abbrev pub unshown : BQ769x0 → List ℕ → List ℕ → Refusal → Shown
+abbrev pub unshown : BQ769x0 → List ℕ → List ℤ → Refusal → Shown
 unshown d inputs list r = shown (refused r) d inputs list
 
--- of a reading of all inputs that of one, from 1, below zero 2^32 less its size
-abbrev pub ofInput : List ℤ → ℕ → ℕ
-ofInput readings input = asU32 (getD readings (input - 1) (pos 0))
+-- of a reading of all inputs that of one, from 1
+abbrev pub ofInput : List ℤ → ℕ → ℤ
+ofInput readings input = getD readings (input - 1) (pos 0)
 
-abbrev pub voltages : ℕ → ℕ → List ℤ → List ℕ
+abbrev pub voltages : ℕ → ℕ → List ℤ → List ℤ
 voltages x n readings = map (ofInput readings) (fitted x n)
 
 -- the record as the crate's call leaves it
-abbrev pub showing : BQ769x0 → List ℕ → List ℕ → List ℤ → Shown
+abbrev pub showing : BQ769x0 → List ℕ → List ℤ → List ℤ → Shown
 showing d inputs list readings =
     shown (value tt) (taking d readings)
     (fitted (d .link .x) (d .«cell_count») over inputs)
     (voltages (d .link .x) (d .«cell_count») readings over list)
 
-unfoldable pub readWired : BQ769x0 → List ℕ → List ℕ → Prog Shown
+unfoldable pub readWired : BQ769x0 → List ℕ → List ℤ → Prog Shown
 readWired d inputs list = do
   readings ← readInputs (d .link) (d .adc) orLeave unshown d inputs list
   ret (showing d inputs list readings)
 
 -- 9, 4, and 19 where either list is shorter than the count
-unfoldable pub wired : BQ769x0 → List ℕ → List ℕ → Prog Shown
+unfoldable pub wired : BQ769x0 → List ℕ → List ℤ → Prog Shown
 wired d inputs list = soundly d (unshown d inputs list nine) (do
   _ ← ret (ready d (min (length inputs) (length list))) orLeave unshown d inputs list
   readWired d inputs list)

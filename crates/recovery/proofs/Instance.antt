@@ -110,8 +110,8 @@ whole check = record {
       «ocdscd_range_used» = R.Lower;
       «scd_threshold» = record { 0 = 56 };
       «ocd_threshold» = record { 0 = 22 };
-      «uv_threshold» = record { 0 = 2797 };
-      «ov_threshold» = record { 0 = 4201 };
+      «uv_threshold» = record { 0 = pos 2797 };
+      «ov_threshold» = record { 0 = pos 4201 };
     });
     device = withShunt (call check .gave .device) (record { 0 = 1000 });
     at = record { tape = length (wholeTape check); log = length (wholeLog check) };

@@ -1,15 +1,23 @@
 -- A refusal's number and figures tell which case it is: `asRefusal` has a left inverse.
 -- Assumes nothing.
 use mathlib.Core.Path.{_≡_, refl}
+use lib.IntN.{natAbs}
 use Rattle.laws.proofs.Inverse.{one-to-one}
 use Rattle.laws.proofs.Variants.{by-variants}
 use Rattle.refusals.specs.Refusal.{Refusal, Answer, value, refused, asRefusal, inNumbers}
 use Rattle.refusals.specs.Inside.{caseOf}
 use Rattle.refusals.specs.declared.Error.{Error}
+use Rattle.refusals.specs.declared.Row.{Row}
 use Rattle.refusals.proofs.Error as declared
 
+-- the case's line in the table: 5 has a register, and another's figures are voltages
+abbrev rowFor : Refusal → Row
+rowFor r =
+    let numbers = inNumbers r in
+    record { 0 = numbers .0; 1 = numbers .1; 2 = natAbs (numbers .2); 3 = numbers .2; 4 = numbers .3 }
+
 pub caseBack : Refusal → Error
-caseBack r = caseOf (inNumbers r)
+caseBack r = caseOf (rowFor r)
 
 pub undone : (e : Error) → caseBack (asRefusal e) ≡ e
 unfolding caseBack

@@ -5,7 +5,6 @@ use mathlib.Core.Bool.{Bool, true, false}
 use mathlib.Core.List.{List, [], _∷_}
 use lib.ListN.{length, getD}
 use lib.IntN.{ℤ, pos}
-use Rattle.numbers.specs.Numbers.{asU32}
 use Rattle.refusals.specs.declared.Error.{Error}
 use Rattle.refusals.specs.declared.Error.the-variants as E
 use Rattle.refusals.specs.declared.InNumbers.{InNumbers}
@@ -53,8 +52,8 @@ asRefusal E.BufTooLarge = no 3 []
 asRefusal E.Uninitialized = no 4 []
 asRefusal (E.VerifyError reg) = no 5 (pos reg ∷ [])
 asRefusal E.OCDSCDRangeMismatch = no 6 []
-asRefusal (E.UVThresholdUnobtainable low high) = no 7 (pos (low .0) ∷ pos (high .0) ∷ [])
-asRefusal (E.OVThresholdUnobtainable low high) = no 8 (pos (low .0) ∷ pos (high .0) ∷ [])
+asRefusal (E.UVThresholdUnobtainable low high) = no 7 (low .0 ∷ high .0 ∷ [])
+asRefusal (E.OVThresholdUnobtainable low high) = no 8 (low .0 ∷ high .0 ∷ [])
 asRefusal E.BadDevice = no 9 []
 asRefusal E.BadCellCount = no 10 []
 asRefusal E.BadAddress = no 11 []
@@ -74,6 +73,6 @@ abbrev pub inNumbers : Refusal → InNumbers
 inNumbers r = record {
   0 = r .number;
   1 = length (r .figures);
-  2 = asU32 (getD (r .figures) 0 (pos 0));
-  3 = asU32 (getD (r .figures) 1 (pos 0));
+  2 = getD (r .figures) 0 (pos 0);
+  3 = getD (r .figures) 1 (pos 0);
 }

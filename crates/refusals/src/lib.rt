@@ -1,7 +1,7 @@
 // What a call refuses with: the crate's errors, then those that are added here.
 ghost use mathlib.Core.Path.{_≡_};
 ghost use Rattle.refusals.specs.Refusal.{asRefusal, inNumbers};
-ghost use Rattle.refusals.specs.Inside.{caseOf};
+ghost use Rattle.refusals.specs.Inside.{caseOf, rowNumbers};
 use units::MilliVolts;
 
 pub enum Error {
@@ -29,47 +29,54 @@ pub enum Error {
 }
 
 // A refusal as numbers: its number, how many figures it names, and those; a figure that it does not name is 0.
-pub struct InNumbers(pub u8, pub u8, pub u32, pub u32);
+pub struct InNumbers(pub u8, pub u8, pub i32, pub i32);
+
+// A line of the table: the number, how many figures it names, and these, the register of 5 or the two voltages of 7 and 8.
+struct Row(u8, u8, u8, i32, i32);
 
 impl Error {
     pub fn in_numbers(self) -> InNumbers
         ensures { λ r. ⌜ r ≡ inNumbers (asRefusal self) ⌝ }
     {
-        self.row()
+        let row = self.row();
+        if row.0 == 5 {
+            return InNumbers(row.0, row.1, row.2 as i32, row.4);
+        }
+        InNumbers(row.0, row.1, row.3, row.4)
     }
 
     pub fn number(self) -> u8
         ensures { λ r. ⌜ r ≡ asRefusal self .number ⌝ }
     {
-        self.in_numbers().0
+        self.row().0
     }
 
     // Stated from the number's side, which the prover closes at each arm by itself; `asRefusal` says the same from the case's side.
-    fn row(self) -> InNumbers
-        ensures { λ r. ⌜ (self ≡ caseOf r) × (r ≡ inNumbers (asRefusal (caseOf r))) ⌝ }
+    fn row(self) -> Row
+        ensures { λ r. ⌜ (self ≡ caseOf r) × (inNumbers (asRefusal (caseOf r)) ≡ rowNumbers r) ⌝ }
     {
         match self {
-            Error::CRCMismatch => InNumbers(1, 0, 0, 0),
-            Error::I2CError => InNumbers(2, 0, 0, 0),
-            Error::BufTooLarge => InNumbers(3, 0, 0, 0),
-            Error::Uninitialized => InNumbers(4, 0, 0, 0),
-            Error::VerifyError(reg) => InNumbers(5, 1, reg as u32, 0),
-            Error::OCDSCDRangeMismatch => InNumbers(6, 0, 0, 0),
-            Error::UVThresholdUnobtainable(low, high) => InNumbers(7, 2, low.0, high.0),
-            Error::OVThresholdUnobtainable(low, high) => InNumbers(8, 2, low.0, high.0),
-            Error::BadDevice => InNumbers(9, 0, 0, 0),
-            Error::BadCellCount => InNumbers(10, 0, 0, 0),
-            Error::BadAddress => InNumbers(11, 0, 0, 0),
-            Error::BadShunt => InNumbers(12, 0, 0, 0),
-            Error::CurrentTooLarge => InNumbers(13, 0, 0, 0),
-            Error::RegisterRunsOut => InNumbers(14, 0, 0, 0),
-            Error::BadTape => InNumbers(15, 0, 0, 0),
-            Error::TapeEnded => InNumbers(16, 0, 0, 0),
-            Error::LogFull => InNumbers(17, 0, 0, 0),
-            Error::UnknownFlags => InNumbers(18, 0, 0, 0),
-            Error::NoRoom => InNumbers(19, 0, 0, 0),
-            Error::UnknownRange => InNumbers(20, 0, 0, 0),
-            Error::NoSuchInput => InNumbers(21, 0, 0, 0),
+            Error::CRCMismatch => Row(1, 0, 0, 0, 0),
+            Error::I2CError => Row(2, 0, 0, 0, 0),
+            Error::BufTooLarge => Row(3, 0, 0, 0, 0),
+            Error::Uninitialized => Row(4, 0, 0, 0, 0),
+            Error::VerifyError(reg) => Row(5, 1, reg, 0, 0),
+            Error::OCDSCDRangeMismatch => Row(6, 0, 0, 0, 0),
+            Error::UVThresholdUnobtainable(low, high) => Row(7, 2, 0, low.0, high.0),
+            Error::OVThresholdUnobtainable(low, high) => Row(8, 2, 0, low.0, high.0),
+            Error::BadDevice => Row(9, 0, 0, 0, 0),
+            Error::BadCellCount => Row(10, 0, 0, 0, 0),
+            Error::BadAddress => Row(11, 0, 0, 0, 0),
+            Error::BadShunt => Row(12, 0, 0, 0, 0),
+            Error::CurrentTooLarge => Row(13, 0, 0, 0, 0),
+            Error::RegisterRunsOut => Row(14, 0, 0, 0, 0),
+            Error::BadTape => Row(15, 0, 0, 0, 0),
+            Error::TapeEnded => Row(16, 0, 0, 0, 0),
+            Error::LogFull => Row(17, 0, 0, 0, 0),
+            Error::UnknownFlags => Row(18, 0, 0, 0, 0),
+            Error::NoRoom => Row(19, 0, 0, 0, 0),
+            Error::UnknownRange => Row(20, 0, 0, 0, 0),
+            Error::NoSuchInput => Row(21, 0, 0, 0, 0),
         }
     }
 }

@@ -147,7 +147,7 @@ fn readings() {
         gain: 65535,
         offset: 0,
     };
-    print::row(
+    print::signed_row(
         b"D38 reading FFFF, gain 65535: mV",
         wide.apply(0xFFFF).0,
         4294836,
@@ -157,8 +157,8 @@ fn readings() {
         offset: -1,
     };
     print::signed_row(
-        b"D38 reading 0, gain 365, offset -1: mV with its sign",
-        low.millivolts(0),
+        b"D38 reading 0, gain 365, offset -1: mV",
+        low.apply(0).0,
         -1,
     );
 }

@@ -22,7 +22,7 @@ fn device(cell_count: u8) -> BQ769x0 {
 }
 
 // Readings 1000, 2000 up to 10000.
-fn read(cell_count: u8, list: &mut [u32; 10]) {
+fn read(cell_count: u8, list: &mut [i32; 10]) {
     let mut log = [0u8; 7];
     let tape = [
         0x01,
@@ -53,14 +53,14 @@ fn read(cell_count: u8, list: &mut [u32; 10]) {
     crate_list::cell_voltages(device(cell_count), list, &tape, &mut log, at);
 }
 
-fn row(cell: u32, millivolts: u32, should: u32) {
+fn row(cell: u32, millivolts: i32, should: u32) {
     text::words(b"  cell");
     text::number(cell as u64);
-    print::row(b", input", millivolts / 365, should);
+    print::row(b", input", numbers::as_u32(millivolts) / 365, should);
 }
 
 pub(crate) fn ten() {
-    let mut list = [0u32; 10];
+    let mut list = [0i32; 10];
     read(10, &mut list);
     text::words(b"BQ76930, 10 cells\n");
     row(1, list[0], 1);
@@ -76,7 +76,7 @@ pub(crate) fn ten() {
 }
 
 pub(crate) fn six() {
-    let mut list = [0u32; 10];
+    let mut list = [0i32; 10];
     read(6, &mut list);
     text::words(b"BQ76930, 6 cells\n");
     row(1, list[0], 1);

@@ -39,11 +39,11 @@ fn readings() {
         gain: 365,
         offset: -1,
     };
-    print::row(b"reading 1, gain 365, offset -1", adc_tf.apply(1).0, 0);
-    print::row(b"reading 0, same", adc_tf.apply(0).0, 4294967295);
+    print::signed_row(b"reading 1, gain 365, offset -1", adc_tf.apply(1).0, 0);
+    print::signed_row(b"reading 0, same", adc_tf.apply(0).0, -1);
 }
 
-fn config(shunt: u32, scd: u32, ocd: u32, uv: u32, ov: u32) -> Config {
+fn config(shunt: u32, scd: u32, ocd: u32, uv: i32, ov: i32) -> Config {
     Config {
         shunt: MicroOhms(shunt),
         scd_delay: SCDDelay::_200uS,
@@ -58,7 +58,7 @@ fn config(shunt: u32, scd: u32, ocd: u32, uv: u32, ov: u32) -> Config {
 }
 
 // Set up at 1000 uOhm on a chip of gain 365 and offset 0.
-fn planned(scd: u32, ocd: u32, uv: u32, ov: u32) -> Plan {
+fn planned(scd: u32, ocd: u32, uv: i32, ov: i32) -> Plan {
     let adc_tf = AdcTransferFunction {
         gain: 365,
         offset: 0,
@@ -73,20 +73,20 @@ fn planned(scd: u32, ocd: u32, uv: u32, ov: u32) -> Plan {
     }
 }
 
-fn uv_reported(answer: InitAnswer) -> u32 {
+fn uv_reported(answer: InitAnswer) -> i32 {
     match answer {
         InitAnswer::Ready(values) => values.uv_threshold.0,
         InitAnswer::Refused(_) => 0,
     }
 }
 
-fn uv_row(name: &[u8], asked: u32, code: u32, reported: u32) {
+fn uv_row(name: &[u8], asked: i32, code: u32, reported: i32) {
     let plan = planned(50, 20, asked, 4200);
     print::row(name, plan.regs[4] as u32, code);
-    print::row(b"  reported", uv_reported(plan.answer), reported);
+    print::signed_row(b"  reported", uv_reported(plan.answer), reported);
 }
 
-fn ov_row(name: &[u8], asked: u32, code: u32) {
+fn ov_row(name: &[u8], asked: i32, code: u32) {
     let plan = planned(50, 20, 2800, asked);
     print::row(name, plan.regs[3] as u32, code);
 }
@@ -100,7 +100,7 @@ fn trip_codes() {
 }
 
 // A voltage that can't be had, and the limits that the refusal names.
-fn refused_row(name: &[u8], uv: u32, ov: u32, number: u32, low: u32, high: u32) {
+fn refused_row(name: &[u8], uv: i32, ov: i32, number: u32, low: i32, high: i32) {
     let plan = planned(50, 20, uv, ov);
     let answer = plan.answer;
     match answer {
@@ -108,8 +108,8 @@ fn refused_row(name: &[u8], uv: u32, ov: u32, number: u32, low: u32, high: u32) 
         InitAnswer::Refused(e) => {
             let numbers = e.in_numbers();
             print::row(name, numbers.0 as u32, number);
-            print::row(b"  low", numbers.2, low);
-            print::row(b"  high", numbers.3, high);
+            print::signed_row(b"  low", numbers.2, low);
+            print::signed_row(b"  high", numbers.3, high);
         }
     }
 }

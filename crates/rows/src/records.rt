@@ -119,20 +119,20 @@ fn not_made() {
 }
 
 // How many cells of five are handed back, or 16 for more than there are.
-fn handed(list: &mut [u32]) -> u32 {
+fn handed(list: &mut [i32]) -> u32 {
     let part = crate_list::cells_of(marked(1000), list);
     let n = part.len();
     if n < 16 { n as u32 } else { 16 }
 }
 
 fn parts() {
-    let mut short = [0u32; 4];
+    let mut short = [0i32; 4];
     print::row(
         b"D33 cells handed back of a list of 4",
         handed(&mut short),
         0,
     );
-    let mut list = [0u32; 6];
+    let mut list = [0i32; 6];
     print::row(
         b"D33 cells handed back of a list of 6",
         handed(&mut list),

@@ -4,7 +4,7 @@
 use Prim.Native.Nat.{ℕ}
 use mathlib.Core.List.{List, [], _∷_, map}
 use lib.IntN.{ℤ, pos, negℤ}
-use Rattle.numbers.specs.Numbers.{asU32, asI8, asI16, word}
+use Rattle.numbers.specs.Numbers.{asI8, asI16, word}
 use Rattle.refusals.specs.Refusal.{Answer, value, refused, no}
 use Rattle.protection.specs.declared.delays.SCDDelay.the-variants as S
 use Rattle.protection.specs.declared.delays.OCDDelay.the-variants as O
@@ -35,9 +35,9 @@ config scd ocd uv ov = record {
   «ocd_delay» = O.«_320ms»;
   «ocd_threshold» = record { 0 = ocd };
   «uv_delay» = U.«_4s»;
-  «uv_threshold» = record { 0 = uv };
+  «uv_threshold» = record { 0 = pos uv };
   «ov_delay» = W.«_4s»;
-  «ov_threshold» = record { 0 = ov };
+  «ov_threshold» = record { 0 = pos ov };
 }
 
 -- of what a configuration is set up with at gain 365 and offset 0: fields of the six bytes written, and values reported
@@ -48,7 +48,7 @@ setUp shown c =
     value (shown (readBack (plan .regs)) (plan .values))
 
 abbrev uv : ℕ → Answer (List ℤ)
-uv asked = setUp (λ fields values. pos (fields .uvTrip) ∷ pos (values .uv) ∷ []) (config 50 20 asked 4200)
+uv asked = setUp (λ fields values. pos (fields .uvTrip) ∷ values .uv ∷ []) (config 50 20 asked 4200)
 
 abbrev ov : ℕ → Answer (List ℤ)
 ov asked = setUp (λ fields values. pos (fields .ovTrip) ∷ []) (config 50 20 2800 asked)
@@ -67,8 +67,8 @@ abbrev pub starred : List Row
 starred =
     (is (pos (gainOf 0x0C 0xE0)), is (pos 396)) ∷
     (is (asI8 0x80), is (negℤ (pos 128))) ∷
-    (is (pos (asU32 (millivolts 365 (negℤ (pos 1)) 1))), is (pos 0)) ∷
-    (is (pos (asU32 (millivolts 365 (negℤ (pos 1)) 0))), is (pos 4294967295)) ∷
+    (is (millivolts 365 (negℤ (pos 1)) 1), is (pos 0)) ∷
+    (is (millivolts 365 (negℤ (pos 1)) 0), is (negℤ (pos 1))) ∷
     (uv 1495, value (pos 0xFF ∷ pos 2984 ∷ [])) ∷
     (uv 1496, value (pos 0x00 ∷ pos 1495 ∷ [])) ∷
     (uv 2984, value (pos 0xFE ∷ pos 2978 ∷ [])) ∷

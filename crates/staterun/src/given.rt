@@ -40,7 +40,7 @@ fn readings_of(value: &[u8]) -> Readings
     let mut cells = [MilliVolts(0); 15];
     let mut i = 0;
     while i < 15 {
-        cells[i] = MilliVolts(four(value, 8 + 4 * i));
+        cells[i] = MilliVolts(numbers::as_i32(four(value, 8 + 4 * i)));
         i += 1;
     }
     Readings { cells }

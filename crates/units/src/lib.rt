@@ -7,6 +7,6 @@ pub struct MilliAmperes(pub i32);
 
 pub struct MicroOhms(pub u32);
 
-pub struct MilliVolts(pub u32);
+pub struct MilliVolts(pub i32);
 
 pub struct DegreesCentigrade(pub i32);

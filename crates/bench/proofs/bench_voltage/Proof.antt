@@ -1,6 +1,7 @@
 -- `bench::bench_voltage` meets its contract. Assumes nothing.
 use Rattle.measuring.specs.Pack.{voltage}
-use Rattle.bench.specs.Calls.{asTold, itself}
+use Rattle.numbers.specs.Numbers.{asU32}
+use Rattle.bench.specs.Calls.{asTold}
 use Rattle.bench.proofs.OnRecord.{on-record}
 use borrow.Author.Needs.{needs}
 use Rattle.bench.proofs.bench_voltage.Statement.{statement}
@@ -32,7 +33,7 @@ same-length c = search needs
 returns : tie.Need-returns
 returns c =
     rw (c .volts .ensures)
-    (on-record (asTold itself) voltage _ (at-record (at-call c) .record-by .ensures) (at-call c .voltage .ensures))
+    (on-record (asTold asU32) voltage _ (at-record (at-call c) .record-by .ensures) (at-call c .voltage .ensures))
 
 pub bench-voltage-spec : {M : Type 1} → statement M
 bench-voltage-spec =

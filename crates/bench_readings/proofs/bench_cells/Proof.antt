@@ -19,16 +19,16 @@ abbrev at-record : tie.After-cell-voltages → tie.After-record-by
 at-record c = c .before .before .before
 
 abbrev at-start : tie.After-cell-voltages → tie.Start
-at-start c = at-record c .before .before .before .before
+at-start c = at-record c .before .before .before
 
 abbrev at-at : tie.After-done → tie.After-at
 at-at c = c .before .before
 
-abbrev at-lent : tie.After-at → tie.After-slice-known3
+abbrev at-lent : tie.After-at → tie.After-list
 at-lent c = c .before .before .before
 
 abbrev at-cells : tie.After-done → tie.After-cell-voltages
-at-cells c = at-lent (at-at c) .before .before
+at-cells c = at-lent (at-at c) .before
 
 -- ---- the needs
 record-by-requires : tie.Need-record-by-requires

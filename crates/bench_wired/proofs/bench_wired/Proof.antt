@@ -18,20 +18,20 @@ module _ (s : tie.Start) where
 abbrev at-record : tie.After-wired → tie.After-record-by
 at-record c = c .before .before .before .before
 
-abbrev at-lists : tie.After-record-by → tie.After-slice-known2
+abbrev at-lists : tie.After-record-by → tie.After-slice-known
 at-lists c = c .before .before .before
 
 abbrev at-start : tie.After-wired → tie.Start
-at-start c = at-lists (at-record c) .before .before
+at-start c = at-lists (at-record c) .before
 
 abbrev at-at : tie.After-done → tie.After-at
 at-at c = c .before .before
 
-abbrev at-lent : tie.After-at → tie.After-slice-known5
+abbrev at-lent : tie.After-at → tie.After-list
 at-lent c = c .before .before .before
 
 abbrev at-wired : tie.After-done → tie.After-wired
-at-wired c = at-lent (at-at c) .before .before .before .before
+at-wired c = at-lent (at-at c) .before .before .before
 
 -- ---- the needs
 record-by-requires : tie.Need-record-by-requires

@@ -1,19 +1,21 @@
 -- `cells::stored` meets its contract: a turn goes on from i cells to i + 1. Assumes nothing.
-use mathlib.Core.Path.{_≡_, refl, _∙_}
-use mathlib.Core.List.{map}
+use mathlib.Core.Path.{_≡_, refl, ap, _∙_}
 use Prim.Native.Nat.{_-_, _≤_, zero-le}
 use native.Mathlib.Omega.{arith}
+use lib.IntN.{pos}
 use lib.ListN.{length, take}
+use mir.Syntax.{w32}
 use denote.Ref.{now}
 use Rattle.laws.specs.Over.{_over_}
-use Rattle.moves.specs.Moves.{named}
+use Rattle.procedure.specs.Inputs.{asCell, asCells}
 use Rattle.laws.proofs.Lists.{map-take}
 use Rattle.laws.proofs.Over.{map-next}
+use Rattle.numbers.proofs.Signed.{read-back}
 use Rattle.cells.proofs.stored.Statement.{statement}
 use Rattle.cells.proofs.stored.Tie as tie
 
 abbrev Inv-loop : tie.InvT-loop
-Inv-loop n inputs out₀ i₀ out i = (i ≤ n) × (out ≡ take i (map named inputs) over out₀) × (length out₀ ≡ 15)
+Inv-loop n inputs out₀ i₀ out i = (i ≤ n) × (out ≡ take i (asCells inputs) over out₀) × (length out₀ ≡ 15)
 
 abbrev μ-loop : tie.MeasureT-loop
 μ-loop n inputs out₀ i₀ out i = n - i
@@ -44,7 +46,7 @@ loop-again c =
     let l = c .before .before .loop in
     let a = c .before .before .before .args in (
       omega arith,
-      map-next named (now (a .inputs)) (a .cells) (l .i) 0 (l .inv .1) refl (omega arith) (omega arith),
+      map-next asCell (now (a .inputs)) (a .cells) (l .i) (pos 0) (l .inv .1) (ap asCell (read-back w32 _ (c .t10 .given))) (omega arith) (omega arith),
       l .inv .2,
     )
 
@@ -52,7 +54,7 @@ returns : tie.Need-returns Inv-loop μ-loop
 returns c =
     let a = c .before .before .args in
     let e : c .before .loop .i ≡ a .n = omega arith in
-    c .before .loop .inv .1 ∙ rw (e, map-take named (a .n) (now (a .inputs)))
+    c .before .loop .inv .1 ∙ rw (e, map-take asCell (a .n) (now (a .inputs)))
 
 pub stored-spec : {M : Type 1} → statement M
 stored-spec =

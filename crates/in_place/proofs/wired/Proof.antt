@@ -16,6 +16,7 @@ use ghost.Atoms.{Atoms}
 use contract.Monad.{Fun}
 use contract.Running.{givenOf, tables, tablesOf}
 use contract.Lifetimes.{AllOutlive}
+use lib.IntN.{ℤ}
 use lib.ListN.{length}
 use types.Kit.{Given, Item, ‵, raw, _⊛_, ⋆, _$_, _∵_, !, qed, cut, move, keep, join, fsplit, fjoin, suffices, frame}
 use types.Run.{look, init, stop, from, load, and-then, no-more, enter, alloc1, alloc0, params1, pass1, pass0}
@@ -23,7 +24,7 @@ use sound.WpLaws.{FmC, fmOf}
 use denote.RattleType.{owns}
 use denote.Laws.{Is}
 use denote.Memory.{mem}
-use denote.Builtin.{u8, u32}
+use denote.Builtin.{u8, i32}
 use denote.Ref.{RefT}
 use denote.Slice.{Room, finally}
 use denote.Signature.{typesAt}
@@ -68,7 +69,7 @@ use Rattle.in_place.proofs.wired.Code as code
 abbrev ways : Ways (f.ended .signature .params) (f.ended .kept)
 ways = (
   record-lent tt,
-  (given u8 1 tt, (given u32 2 tt, (tape 3 tt, (given u8 4 tt, (value P.the-type P′.the-laws (λ κs x f. refl), tt))))),
+  (given u8 1 tt, (given i32 2 tt, (tape 3 tt, (given u8 4 tt, (value P.the-type P′.the-laws (λ κs x f. refl), tt))))),
 )
 
 -- the contract that the proof cites
@@ -78,7 +79,7 @@ Called 𝓤 H A mem run = tripleOf 𝓤 H A callee.signature (callee.spec 𝓤 H
 module _ {M : Type 1} (𝓤 : URA M) (H : Heap 𝓤) (A : Atoms 𝓤) (W : Given 𝓤 H A)
     (at-mem : Memory → SProp 𝓤) (run : Routine → Fun 𝓤)
     (κ κm κs κt κl : Lft) (bounds : AllOutlive 5 (f.signature .outlives) (κ, (κm, (κs, (κt, (κl, tt))))))
-    (q qm qs qt ql : Share) (b o : ℕ) (γ : GName) (h : BQ769x0) (m s t g : RefT (List ℕ)) (cursor : Cursor) (pv : Val) where
+    (q qm qs qt ql : Share) (b o : ℕ) (γ : GName) (h : BQ769x0) (m : RefT (List ℕ)) (s : RefT (List ℤ)) (t g : RefT (List ℕ)) (cursor : Cursor) (pv : Val) where
   -- the arguments, their machine values, and the walk's triple at what it binds outside
   abbrev x : Args f.signature (κ, (κm, (κs, (κt, (κl, tt)))))
   x = (record { ptr = (b, o); name = γ; now = h }, (m, (s, (t, (g, (cursor, tt))))))
@@ -98,23 +99,23 @@ module _ {M : Type 1} (𝓤 : URA M) (H : Heap 𝓤) (A : Atoms 𝓤) (W : Given
 
   abbrev Asks : List (Item 𝓤)
   Asks =
-      Others ∷ ‵ (lent-slice (named 1) κm u8 m) ∷ ‵ (lent-slice (named 2) κs u32 s)
+      Others ∷ ‵ (lent-slice (named 1) κm u8 m) ∷ ‵ (lent-slice (named 2) κs i32 s)
       ∷ ‵ (taped (named 3) κt t) ∷ ‵ (lent-slice (named 4) κl u8 g) ∷ []
 
-  abbrev Ends : Cells → List ℕ → List ℕ → List ℕ → List (Item 𝓤)
+  abbrev Ends : Cells → List ℕ → List ℤ → List ℕ → List (Item 𝓤)
   Ends r xs ys zs =
       ‵ (seen γ (r .device)) ∷ ‵ (fbor κ (behind b o γ)) ∷ ‵ (flft κ q) ∷ Others
-      ∷ ‵ (finally u8 (m .name) xs) ∷ ‵ (finally u32 (s .name) ys)
+      ∷ ‵ (finally u8 (m .name) xs) ∷ ‵ (finally i32 (s .name) ys)
       ∷ ‵ (taped (named 3) κt t) ∷ ‵ (finally u8 (g .name) zs) ∷ []
 
   -- the promise, of the call by value and of the record in place alike
-  abbrev Says : Cells → List ℕ → List ℕ → List ℕ → Type 0
+  abbrev Says : Cells → List ℕ → List ℤ → List ℕ → Type 0
   Says r inputs list log =
       ran (shown (asRaw (r .answer)) (r .device) inputs list) (t .now) log (r .at)
       ≡ onTape (wired h (m .now) (s .now)) (busOf (t .now) (g .now) cursor)
 
   module _ (pp : Is P.the-row cursor (pv ∷ [])) where
-    exits : (r : Cells) (u : Val) (xs ys zs : List ℕ) → Says r xs ys zs
+    exits : (r : Cells) (u : Val) (xs : List ℕ) (ys : List ℤ) (zs : List ℕ) → Says r xs ys zs
         → length xs ≡ length (m .now) → length ys ≡ length (s .now) → length zs ≡ length (g .now)
         → Is R.the-row (rest r) (u ∷ []) → ent 𝓤 (⋆ 𝓤 H A (Ends r xs ys zs)) (Walk .post outside u)
     exits r u xs ys zs e j k l is =
@@ -136,7 +137,7 @@ module _ {M : Type 1} (𝓤 : URA M) (H : Heap 𝓤) (A : Atoms 𝓤) (W : Given
 
     module _ (C : Calls 𝓤 H) (Λ : Loops 𝓤 H) (fm : FmC 𝓤 H (W .laws) C)
         (known : Triple 𝓤 (C #called) (Called 𝓤 H A at-mem run)) where
-      walk : Room u8 (length (m .now)) → Room u32 (length (s .now)) → Room u8 (length (t .now)) → Room u8 (length (g .now))
+      walk : Room u8 (length (m .now)) → Room i32 (length (s .now)) → Room u8 (length (t .now)) → Room u8 (length (g .now))
           → ent 𝓤 (onEntry 𝓤 H A f.signature (κ, (κm, (κs, (κt, (κl, tt))))) (q, (qm, (qs, (qt, (ql, tt))))) x at)
           (WpFn 𝓤 H C Λ code.function (Walk .args outside) (Walk .post outside))
       walk room-m room-s room-t room-g =

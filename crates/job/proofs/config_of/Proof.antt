@@ -2,12 +2,13 @@
 use mathlib.Core.Path.{_≡_}
 use mathlib.Core.List.{List}
 use Prim.Native.Nat.{ℕ, _+_}
+use lib.IntN.{ℤ}
 use Rattle.protection.specs.declared.delays.SCDDelay.{SCDDelay}
 use Rattle.protection.specs.declared.delays.OCDDelay.{OCDDelay}
 use Rattle.protection.specs.declared.delays.UVDelay.{UVDelay}
 use Rattle.protection.specs.declared.delays.OVDelay.{OVDelay}
 use Rattle.plan.specs.declared.Config.{Config}
-use Rattle.job.specs.Jobs.{byteAt, numberAt, configAt}
+use Rattle.job.specs.Jobs.{byteAt, numberAt, signedAt, configAt}
 use Rattle.job.specs.Delays.{scdAt, ocdAt, uvAt, ovAt}
 use denote.Ref.{now}
 use borrow.Author.Needs.{needs}
@@ -15,7 +16,7 @@ use Rattle.job.proofs.config_of.Statement.{statement}
 use Rattle.job.proofs.config_of.Tie as tie
 
 -- the configuration of five numbers and four delays
-abbrev made : (shunt scd ocd uv ov : ℕ) → SCDDelay → OCDDelay → UVDelay → OVDelay → Config
+abbrev made : (shunt scd ocd : ℕ) (uv ov : ℤ) → SCDDelay → OCDDelay → UVDelay → OVDelay → Config
 made shunt scd ocd uv ov scd-delay ocd-delay uv-delay ov-delay = record {
   shunt = record { 0 = shunt };
   «scd_threshold» = record { 0 = scd };
@@ -30,7 +31,7 @@ made shunt scd ocd uv ov scd-delay ocd-delay uv-delay ov-delay = record {
 
 -- ---- the law, over any results of the calls: each assumption is what one call ensures
 module _ (bytes : List ℕ) (at : ℕ) where
-  made-is : {shunt scd ocd uv ov : ℕ}
+  made-is : {shunt scd ocd : ℕ} {uv ov : ℤ}
       {scd-delay : SCDDelay} {ocd-delay : OCDDelay} {uv-delay : UVDelay} {ov-delay : OVDelay}
       → shunt ≡ numberAt bytes at
       → scd-delay ≡ scdAt (byteAt bytes (at + 20))
@@ -38,26 +39,26 @@ module _ (bytes : List ℕ) (at : ℕ) where
       → ocd-delay ≡ ocdAt (byteAt bytes (at + 21))
       → ocd ≡ numberAt bytes (at + 8)
       → uv-delay ≡ uvAt (byteAt bytes (at + 22))
-      → uv ≡ numberAt bytes (at + 12)
+      → uv ≡ signedAt bytes (at + 12)
       → ov-delay ≡ ovAt (byteAt bytes (at + 23))
-      → ov ≡ numberAt bytes (at + 16)
+      → ov ≡ signedAt bytes (at + 16)
       → made shunt scd ocd uv ov scd-delay ocd-delay uv-delay ov-delay ≡ configAt bytes at
   made-is e₀ e₁ e₂ e₃ e₄ e₅ e₆ e₇ e₈ = rw (e₀, e₁, e₂, e₃, e₄, e₅, e₆, e₇, e₈)
 
 -- ---- the places where a threshold is read, each from the next: its delay is read just before
-abbrev at-uv : tie.After-number-at5 → tie.After-number-at4
+abbrev at-uv : tie.After-millivolts-at2 → tie.After-millivolts-at
 at-uv c = c .before .before .before
 
-abbrev at-ocd : tie.After-number-at5 → tie.After-number-at3
+abbrev at-ocd : tie.After-millivolts-at2 → tie.After-number-at3
 at-ocd c = at-uv c .before .before .before
 
-abbrev at-scd : tie.After-number-at5 → tie.After-number-at2
+abbrev at-scd : tie.After-millivolts-at2 → tie.After-number-at2
 at-scd c = at-ocd c .before .before .before
 
-abbrev at-shunt : tie.After-number-at5 → tie.After-number-at
+abbrev at-shunt : tie.After-millivolts-at2 → tie.After-number-at
 at-shunt c = at-scd c .before .before .before
 
-abbrev at-start : tie.After-number-at5 → tie.Start
+abbrev at-start : tie.After-millivolts-at2 → tie.Start
 at-start c = at-shunt c .before .before
 
 number-at-requires : tie.Need-number-at-requires
@@ -102,11 +103,11 @@ shared-slice-read-uv-delay c = search needs
 uv-delay-requires : tie.Need-uv-delay-requires
 uv-delay-requires c κs = search needs
 
-add-number-at-3 : tie.Need-add-number-at-3
-add-number-at-3 c = search needs
+add-millivolts-at : tie.Need-add-millivolts-at
+add-millivolts-at c = search needs
 
-number-at-requires-4 : tie.Need-number-at-requires-4
-number-at-requires-4 c κs = search needs
+millivolts-at-requires : tie.Need-millivolts-at-requires
+millivolts-at-requires c κs = search needs
 
 add-ov-delay : tie.Need-add-ov-delay
 add-ov-delay c = search needs
@@ -117,11 +118,11 @@ shared-slice-read-ov-delay c = search needs
 ov-delay-requires : tie.Need-ov-delay-requires
 ov-delay-requires c κs = search needs
 
-add-number-at-4 : tie.Need-add-number-at-4
-add-number-at-4 c = search needs
+add-millivolts-at-2 : tie.Need-add-millivolts-at-2
+add-millivolts-at-2 c = search needs
 
-number-at-requires-5 : tie.Need-number-at-requires-5
-number-at-requires-5 c κs = search needs
+millivolts-at-requires-2 : tie.Need-millivolts-at-requires-2
+millivolts-at-requires-2 c κs = search needs
 
 returns : tie.Need-returns
 returns c =
@@ -132,9 +133,9 @@ returns c =
     (at-ocd c .before .ocd-delay .ensures)
     (at-ocd c .number-at3 .ensures)
     (at-uv c .before .uv-delay .ensures)
-    (at-uv c .number-at4 .ensures)
+    (at-uv c .millivolts-at .ensures)
     (c .before .ov-delay .ensures)
-    (c .number-at5 .ensures)
+    (c .millivolts-at2 .ensures)
 
 pub config-of-spec : {M : Type 1} → statement M
 config-of-spec =
@@ -154,11 +155,11 @@ config-of-spec =
     add-uv-delay
     shared-slice-read-uv-delay
     uv-delay-requires
-    add-number-at-3
-    number-at-requires-4
+    add-millivolts-at
+    millivolts-at-requires
     add-ov-delay
     shared-slice-read-ov-delay
     ov-delay-requires
-    add-number-at-4
-    number-at-requires-5
+    add-millivolts-at-2
+    millivolts-at-requires-2
     returns)

@@ -1,26 +1,26 @@
--- `numbers::from_twos` meets its contract: twice half is at most 65536, so that it and the difference fit an `i32`. Assumes nothing.
+-- `numbers::from_twos` meets its contract: twice half is at most 2^32, so that it and the difference fit an `i64`. Assumes nothing.
 use borrow.Author.Needs.{needs}
 use mathlib.Core.Path.{_≡_, subst, sym}
 use Prim.Native.Nat.{_*_}
 use native.Mathlib.Omega.{arith}
 use lib.IntN.{pos, _-ℤ_}
-use mir.Syntax.{w32}
+use mir.Syntax.{w64}
 use mir.Val.{SFits, toZ}
 use mir.Facts.{toZ-ofZ, toZ-pos}
 use Rattle.numbers.proofs.Signed.{signed, sized, size-sub, twos-low, twos-high}
 use Rattle.numbers.proofs.from_twos.Statement.{statement}
 use Rattle.numbers.proofs.from_twos.Tie as tie
 
-n-read : (c : tie.Start) → toZ w32 (c .args .n) ≡ pos (c .args .n)
-n-read c = toZ-pos w32 (omega arith)
+n-read : (c : tie.Start) → toZ w64 (c .args .n) ≡ pos (c .args .n)
+n-read c = toZ-pos w64 (omega arith)
 
-half-read : (c : tie.Start) → toZ w32 (c .args .half) ≡ pos (c .args .half)
-half-read c = toZ-pos w32 (omega arith)
+half-read : (c : tie.Start) → toZ w64 (c .args .half) ≡ pos (c .args .half)
+half-read c = toZ-pos w64 (omega arith)
 
-twice-fits : (c : tie.Start) → SFits w32 (pos (2 * c .args .half))
+twice-fits : (c : tie.Start) → SFits w64 (pos (2 * c .args .half))
 twice-fits c = record { sfits = omega arith }
 
-result-fits : (c : tie.Start) → SFits w32 (pos (c .args .n) -ℤ pos (2 * c .args .half))
+result-fits : (c : tie.Start) → SFits w64 (pos (c .args .n) -ℤ pos (2 * c .args .half))
 result-fits c = sized (omega (arith, size-sub (pos (c .args .n)) (pos (2 * c .args .half))))
 
 ruleset facts = (signed, n-read, half-read, twice-fits, result-fits)

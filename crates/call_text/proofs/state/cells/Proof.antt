@@ -19,11 +19,8 @@ mul-cell c = search needs
 array-copy-out-cell : tie.Need-array-copy-out-cell Inv-loop μ-loop
 array-copy-out-cell c = search needs
 
-cast-number : tie.Need-cast-number Inv-loop μ-loop
-cast-number c = search needs
-
-number-requires : tie.Need-number-requires Inv-loop μ-loop
-number-requires c κs = search needs
+signed-number-requires : tie.Need-signed-number-requires Inv-loop μ-loop
+signed-number-requires c κs = search needs
 
 add-i : tie.Need-add-i Inv-loop μ-loop
 add-i c = search needs
@@ -46,8 +43,7 @@ cells-spec =
     loop-holds
     mul-cell
     array-copy-out-cell
-    cast-number
-    number-requires
+    signed-number-requires
     add-i
     loop-less
     loop-again

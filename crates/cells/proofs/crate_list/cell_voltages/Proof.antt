@@ -2,7 +2,7 @@
 use mathlib.Core.Path.{_≡_, sym, _∙_}
 use mathlib.Core.Bool.{true}
 use mathlib.Core.List.{List}
-use Prim.Native.Nat.{ℕ}
+use lib.IntN.{ℤ}
 use lib.ListN.{length}
 use denote.Ref.{now}
 use borrow.Author.Needs.{needs}
@@ -22,7 +22,7 @@ module _ (s : tie.Start) where
   abbrev device : BQ769x0
   device = s .args .device
 
-  abbrev list : List ℕ
+  abbrev list : List ℤ
   list = now (s .args .list)
 
   abbrev bus : Bus
@@ -40,7 +40,7 @@ module _ (s : tie.Start) where
 
 -- ---- the places, each from the next
 abbrev at-start : tie.After-is-sound → tie.Start
-at-start c = c .before .before .before .before
+at-start c = c .before .before .before
 
 abbrev at-sound : tie.Else2 → tie.Else1
 at-sound c = c .before .before
@@ -48,8 +48,8 @@ at-sound c = c .before .before
 abbrev at-marked : tie.Else3 → tie.Else2
 at-marked c = c .before .before
 
-abbrev at-read : tie.After-slice-known4 → tie.After-read-cells
-at-read c = c .before .before .before .before
+abbrev at-read : tie.After-slice-known2 → tie.After-read-cells
+at-read c = c .before .before .before
 
 module _ (c : tie.Else1) where
   abbrev start : tie.Start

@@ -3,14 +3,14 @@ use mathlib.Core.Path.{_≡_, refl, sym, _∙_}
 use mathlib.Core.List.{List, map}
 use Prim.Native.Nat.{ℕ, _≤_}
 use native.Mathlib.Omega.{arith}
+use lib.IntN.{ℤ}
 use lib.ListN.{length, take, drop, length-map}
 use lib.Seq.{take-at, length-take-le}
 use denote.Ref.{now}
 use borrow.Author.Tests.{lt-ltb, le-ltb}
 use Rattle.units.specs.declared.MilliVolts.{MilliVolts}
 use Rattle.laws.specs.Over.{_over_}
-use Rattle.moves.specs.Moves.{volts, firstCells}
-use Rattle.procedure.specs.Cells.{handedBack}
+use Rattle.procedure.specs.Cells.{volts, firstCells, handedBack}
 use borrow.Author.Needs.{needs}
 use Rattle.cells.proofs.crate_list.cells_of.Statement.{statement}
 use Rattle.cells.proofs.crate_list.cells_of.Tie as tie
@@ -23,7 +23,7 @@ module _ (s : tie.Start) where
   abbrev held : List MilliVolts
   held = s .args .device .readings .cells
 
-  abbrev list : List ℕ
+  abbrev list : List ℤ
   list = now (s .args .list)
 
   long : length (map volts held) ≡ 15
@@ -31,7 +31,7 @@ module _ (s : tie.Start) where
       length-map held volts
       ∙ (sym (length-map held _) ∙ s .good .0 .1 .1 .1 .1 .1 .1 .1 .0 .1 .1 .0 .1 .0 .1)
 
-  part : {list′ : List ℕ} → n ≤ length list → n ≤ 15 → list′ ≡ firstCells n held over list
+  part : {list′ : List ℤ} → n ≤ length list → n ≤ 15 → list′ ≡ firstCells n held over list
       → take n list′ ≡ handedBack n held (length list)
   part room few filled =
       let front = length-take-le n (map volts held) (omega (arith, long)) in
@@ -44,7 +44,7 @@ module _ (c : tie.After-fill) where
   room = c .before .before .before .before
 
   abbrev start : tie.Start
-  start = room .before .before .before
+  start = room .before .before
 
   after-fill : take (n start) (c .fill .last .1 .1 .0) ≡ handedBack (n start) (held start) (length (list start))
   after-fill = part start (room .if1 .left) (c .before .before .before .if2 .left) (c .fill .ensures)
@@ -72,7 +72,7 @@ slice-aggregate-result-3 : tie.Need-slice-aggregate-result-3
 slice-aggregate-result-3 c = sym (length-take-le _ _ (omega arith))
 
 returns-3 : tie.Need-returns-3
-returns-3 c = (after-fill (c .before .before .before), refl)
+returns-3 c = (after-fill (c .before .before), refl)
 
 pub cells-of-spec : {M : Type 1} → statement M
 cells-of-spec =

@@ -3,11 +3,14 @@ use mathlib.Core.Path.{_≡_, refl, _∙_}
 use mathlib.Core.List.{map}
 use Prim.Native.Nat.{_-_, _≤_, zero-le}
 use native.Mathlib.Omega.{arith}
+use lib.IntN.{pos}
 use lib.ListN.{length, take, length-set}
+use mir.Syntax.{w32}
 use denote.Ref.{now}
 use Rattle.laws.specs.Over.{_over_}
-use Rattle.moves.specs.Moves.{volts}
+use Rattle.procedure.specs.Cells.{volts}
 use Rattle.laws.proofs.Over.{map-next}
+use Rattle.numbers.proofs.Signed.{read-back}
 use Rattle.cells.proofs.crate_list.fill.Statement.{statement}
 use Rattle.cells.proofs.crate_list.fill.Tie as tie
 
@@ -27,11 +30,11 @@ mul-cell c = omega arith
 array-copy-out-cell : tie.Need-array-copy-out-cell Inv-loop μ-loop
 array-copy-out-cell c = omega arith
 
-mul-list : tie.Need-mul-list Inv-loop μ-loop
-mul-list c = omega arith
+mul-mv : tie.Need-mul-mv Inv-loop μ-loop
+mul-mv c = omega arith
 
-slice-write-list : tie.Need-slice-write-list Inv-loop μ-loop
-slice-write-list c = omega arith
+slice-set-from-mv : tie.Need-slice-set-from-mv Inv-loop μ-loop
+slice-set-from-mv c = omega arith
 
 add-i : tie.Need-add-i Inv-loop μ-loop
 add-i c = omega arith
@@ -41,10 +44,10 @@ loop-less c = omega arith
 
 loop-again : tie.Need-loop-again Inv-loop μ-loop
 loop-again c =
-    let l = c .before .before .loop in
-    let a = c .before .before .before .args in (
+    let l = c .before .before .before .loop in
+    let a = c .before .before .before .before .args in (
       omega arith,
-      map-next volts (a .t2) (now (a .list)) (l .i) (record { 0 = 0 }) (l .inv .1) refl (omega arith) (omega arith),
+      map-next volts (a .t2) (now (a .list)) (l .i) (record { 0 = pos 0 }) (l .inv .1) (read-back w32 _ (c .struct-told .given .0 .1)) (omega arith) (omega arith),
       simp length-set (l .inv .2),
       l .inv .3,
     )
@@ -66,8 +69,8 @@ fill-spec =
     loop-holds
     mul-cell
     array-copy-out-cell
-    mul-list
-    slice-write-list
+    mul-mv
+    slice-set-from-mv
     add-i
     loop-less
     loop-again

@@ -2,10 +2,13 @@
 use mathlib.Core.Path.{_≡_, refl, _∙_}
 use Prim.Native.Nat.{_-_, _≤_, zero-le}
 use native.Mathlib.Omega.{arith}
+use lib.IntN.{pos}
 use lib.ListN.{length, take, length-set}
+use mir.Syntax.{w32}
 use denote.Ref.{now}
 use Rattle.laws.specs.Over.{_over_}
 use Rattle.laws.proofs.Over.{over-next}
+use Rattle.numbers.proofs.Signed.{read-back}
 use Rattle.cells.proofs.crate_list.list_first.Statement.{statement}
 use Rattle.cells.proofs.crate_list.list_first.Tie as tie
 
@@ -24,11 +27,11 @@ mul-list c = omega arith
 element-copy-out-list : tie.Need-element-copy-out-list Inv-loop μ-loop
 element-copy-out-list c = omega arith
 
-mul-list-2 : tie.Need-mul-list-2 Inv-loop μ-loop
-mul-list-2 c = omega arith
+mul-t10 : tie.Need-mul-t10 Inv-loop μ-loop
+mul-t10 c = omega arith
 
-slice-write-list : tie.Need-slice-write-list Inv-loop μ-loop
-slice-write-list c = omega arith
+slice-set-from-list : tie.Need-slice-set-from-list Inv-loop μ-loop
+slice-set-from-list c = omega arith
 
 add-i : tie.Need-add-i Inv-loop μ-loop
 add-i c = omega arith
@@ -41,7 +44,7 @@ loop-again c =
     let l = c .before .before .loop in
     let a = c .before .before .before .args in (
       omega arith,
-      over-next (now (a .inputs)) (now (a .list)) (l .i) 0 (l .inv .1) refl (omega arith) (omega arith),
+      over-next (now (a .inputs)) (now (a .list)) (l .i) (pos 0) (l .inv .1) (read-back w32 _ (c .list .given)) (omega arith) (omega arith),
       simp length-set (l .inv .2),
     )
 
@@ -62,8 +65,8 @@ list-first-spec =
     loop-holds
     mul-list
     element-copy-out-list
-    mul-list-2
-    slice-write-list
+    mul-t10
+    slice-set-from-list
     add-i
     loop-less
     loop-again

@@ -3,7 +3,7 @@ use mathlib.Core.Path.{_≡_, refl, sym, ap, _∙_}
 use mathlib.Core.List.{List, map}
 use Prim.Native.Nat.{ℕ, _≤_}
 use native.Mathlib.Omega.{arith}
-use lib.IntN.{ℤ}
+use lib.IntN.{ℤ, pos}
 use lib.ListN.{length, take}
 use denote.Ref.{now}
 use borrow.Author.Needs.{needs}
@@ -15,12 +15,13 @@ use Rattle.bus.specs.Raw.{asRaw}
 use Rattle.bus.specs.declared.link.Raw.{Raw}
 use Rattle.bq769x0.specs.Record.{withReadings}
 use Rattle.bq769x0.specs.declared.BQ769x0.{BQ769x0}
-use Rattle.bq769x0.proofs.Sizes.{sound-sizes}
+use Rattle.bq769x0.proofs.Sizes.{sound-sizes, sound-gain}
 use Rattle.laws.specs.Over.{_over_}
-use Rattle.moves.specs.Moves.{Move, moves, inTurn, named}
-use Rattle.moves.proofs.Front.{as-many}
+use Rattle.moves.specs.Moves.{Move, moves, inTurn}
+use Rattle.moves.proofs.Front.{length-turned}
+use Rattle.procedure.specs.Inputs.{asCells}
 use Rattle.procedure.specs.Cells.{Filled, filled, taking, untouched, listed, readCells}
-use Rattle.procedure.proofs.Moved.{sound-gain, taken, listed-first}
+use Rattle.procedure.proofs.Moved.{taken, listed-first}
 use Rattle.procedure.proofs.Reading.{unread, given}
 use Rattle.cells.specs.Inside.{Taken}
 use Rattle.cells.proofs.crate_list.read_cells.Statement.{statement}
@@ -39,7 +40,7 @@ module _ (s : tie.Start) where
   abbrev all : List Move
   all = moves x n
 
-  abbrev list : List ℕ
+  abbrev list : List ℤ
   list = now (s .args .list)
 
   abbrev tape : List ℕ
@@ -58,19 +59,19 @@ module _ (s : tie.Start) where
   few = sound-sizes device (s .pre .0)
 
   -- ---- by what was taken of the chip
-  module _ {r : Raw} {inputs log : List ℕ} (read : Taken (device .link) (device .adc) bus r inputs log) where
+  module _ {r : Raw} {inputs : List ℤ} {log : List ℕ} (read : Taken (device .link) (device .adc) bus r inputs log) where
     off : {e : Refusal} → asRaw (r .answer) ≡ refused e
         → whole ≡ record { answer = untouched device list e; bus = busOf tape log (r .at) }
     unfolding readCells
     off t = unread device 0 (untouched device list) give bus (asRaw (r .answer)) (read .readings) _ (read .read) _ t
 
-    module _ (moved : List ℕ) (turned : map named moved ≡ inTurn all (map named inputs)) where
+    module _ (moved : List ℤ) (turned : moved ≡ inTurn (pos 0) all inputs) where
       long : length moved ≡ 16
-      long = as-many all inputs moved turned ∙ read .room
+      long = ap length turned ∙ length-turned (pos 0) all inputs ∙ read .room
 
-      on : {cells : List MilliVolts} {left : BQ769x0} {list′ : List ℕ} → asRaw (r .answer) ≡ value tt
+      on : {cells : List MilliVolts} {left : BQ769x0} {list′ : List ℤ} → asRaw (r .answer) ≡ value tt
           → list′ ≡ take n moved over list
-          → cells ≡ map named (take x moved) over device .readings .cells
+          → cells ≡ asCells (take x moved) over device .readings .cells
           → left ≡ withReadings device (record { cells = cells })
           → whole ≡ record { answer = filled (value tt) left list′; bus = busOf tape log (r .at) }
       unfolding readCells
@@ -82,7 +83,7 @@ module _ (s : tie.Start) where
 
 -- ---- the places, each from the next
 abbrev at-start : tie.After-link → tie.Start
-at-start c = c .before .before .before .before
+at-start c = c .before .before .before
 
 abbrev at-read : tie.After-next → tie.After-read-inputs
 at-read c = c .before .before .before
@@ -94,7 +95,7 @@ abbrev at-turned : tie.After-list-first → tie.After-in-turn
 at-turned c = c .before .before .before
 
 abbrev at-listed : tie.After-held → tie.After-list-first
-at-listed c = c .before .before .before
+at-listed c = c .before .before
 
 -- ---- after the read, and after the moves
 module _ (c : tie.After-read-inputs) where
@@ -105,7 +106,7 @@ module _ (c : tie.After-in-turn) where
   abbrev reading : tie.After-read-inputs
   reading = at-read (at-told c .before .before)
 
-  abbrev moved : List ℕ
+  abbrev moved : List ℤ
   moved = c .in-turn .last .1 .1 .0
 
   wide : length moved ≡ 16

@@ -1,11 +1,11 @@
 -- `cells::inputs::convert` meets its contract: k is 0 or 8 where a turn begins, and the turns end at 8 or 16. Assumes nothing.
 use mathlib.Core.Path.{_≡_, sym, ap, _∙_}
-use mathlib.Core.List.{List, map}
+use mathlib.Core.List.{List}
 use Prim.Native.Nat.{ℕ, _-_, _%_, _≤_, zero-le}
 use native.Mathlib.Omega.{arith}
+use lib.IntN.{ℤ}
 use lib.ListN.{take}
 use lib.Seq.{take-take}
-use Rattle.numbers.specs.Numbers.{asU32}
 use Rattle.adc.specs.declared.transfer.AdcTransferFunction.{AdcTransferFunction}
 use Rattle.procedure.specs.Inputs.{converted}
 use Rattle.cells.specs.Inside.{Held}
@@ -18,7 +18,7 @@ Inv-loop adc n buf cells₀ k₀ cells k = (k ≤ 16) × (k % 8 ≡ 0) × Held a
 abbrev μ-loop : tie.MeasureT-loop
 μ-loop adc n buf cells₀ k₀ cells k = 16 - k
 
-fewer : {adc : AdcTransferFunction} {bytes : List ℕ} {k : ℕ} {cells : List ℕ} (n : ℕ) → n ≤ k
+fewer : {adc : AdcTransferFunction} {bytes : List ℕ} {k : ℕ} {cells : List ℤ} (n : ℕ) → n ≤ k
     → Held adc bytes k cells → Held adc bytes n cells
 fewer {adc} {bytes} {k} {cells} n few held = record {
   from = held .from;
@@ -26,7 +26,7 @@ fewer {adc} {bytes} {k} {cells} n few held = record {
   first =
       sym (take-take n k cells few)
       ∙ ap (take n) (held .first)
-      ∙ take-take n k (map asU32 (converted adc bytes)) few;
+      ∙ take-take n k (converted adc bytes) few;
 }
 
 loop-holds : tie.Need-loop-holds Inv-loop μ-loop

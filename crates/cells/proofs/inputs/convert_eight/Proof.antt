@@ -1,14 +1,16 @@
 -- `cells::inputs::convert_eight` meets its contract: a turn goes on from k + i inputs to k + i + 1. Assumes nothing.
 use mathlib.Core.Path.{_≡_, sym, ap, ap₂, _∙_}
-use mathlib.Core.List.{List, [], _∷_, _++_, map}
+use mathlib.Core.List.{List, [], _∷_, _++_}
 use Prim.Native.Nat.{ℕ, suc, _+_, _-_, _*_, _≤_, _<_, zero-le}
 use native.Mathlib.Omega.{arith}
 use native.Mathlib.Numerals.{unary-clauses}
-use lib.ListN.{length, getD, set, length-map, length-set, List·getD-map}
+use lib.IntN.{ℤ}
+use lib.ListN.{length, getD, set, length-set}
 use lib.Seq.{take-suc, take-suc-set}
 use mir.Syntax.{w32}
+use mir.Val.{toZ, ofZ}
 use denote.Ref.{now}
-use Rattle.numbers.specs.Numbers.{word, asU32}
+use Rattle.numbers.specs.Numbers.{word}
 use Rattle.numbers.proofs.Signed.{read-back}
 use Rattle.adc.specs.Conversion.{millivolts}
 use Rattle.adc.specs.declared.transfer.AdcTransferFunction.{AdcTransferFunction}
@@ -25,50 +27,45 @@ abbrev μ-loop : tie.MeasureT-loop
 μ-loop adc buf k cells₀ i₀ cells i = 8 - i
 
 -- ---- one input more
-module _ {adc : AdcTransferFunction} {bytes : List ℕ} {j : ℕ} {cells : List ℕ} (held : Held adc bytes j cells) (more : j < 16) where
-  abbrev numbers : List ℕ
-  numbers = map asU32 (converted adc bytes)
+module _ {adc : AdcTransferFunction} {bytes : List ℕ} {j : ℕ} {cells : List ℤ} (held : Held adc bytes j cells) (more : j < 16) where
+  abbrev none : ℤ
+  none = millivolts (adc .gain) (adc .offset) 0
 
-  abbrev none : ℕ
-  none = asU32 (millivolts (adc .gain) (adc .offset) 0)
+  there : j < length (converted adc bytes)
+  there = omega (arith, length-converted adc bytes, held .from)
 
-  there : j < length numbers
-  there = omega (arith, length-map (converted adc bytes) asU32, length-converted adc bytes, held .from)
-
-  next-is : asU32 (millivolts (adc .gain) (adc .offset) (word (getD bytes (2 * j) 0) (getD bytes (2 * j + 1) 0)))
-      ≡ getD numbers j none
+  next-is : millivolts (adc .gain) (adc .offset) (word (getD bytes (2 * j) 0) (getD bytes (2 * j + 1) 0))
+      ≡ getD (converted adc bytes) j none
   next-is =
       let high : 2 * j ≡ j * 2 = omega arith in
       let low : 2 * j + 1 ≡ j * 2 + 1 = omega arith in
-      ap₂ (λ (h l : ℕ). asU32 (millivolts (adc .gain) (adc .offset) (word (getD bytes h 0) (getD bytes l 0)))) high low
-      ∙ ap asU32 (sym (converted-at adc bytes j (omega (arith, held .from))))
-      ∙ sym (List·getD-map asU32 (converted adc bytes) j _)
+      ap₂ (λ (h l : ℕ). millivolts (adc .gain) (adc .offset) (word (getD bytes h 0) (getD bytes l 0))) high low
+      ∙ sym (converted-at adc bytes j (omega (arith, held .from)))
 
-  one-more : {a : ℕ} → a ≡ getD numbers j none → Held adc bytes (suc j) (set cells j a)
-  one-more {a} made = record {
+  one-more : {mv : ℤ} → mv ≡ getD (converted adc bytes) j none → Held adc bytes (suc j) (set cells j mv)
+  one-more {mv} made = record {
     from = held .from;
-    room = length-set cells j a ∙ held .room;
+    room = length-set cells j mv ∙ held .room;
     first =
-        take-suc-set cells j a (omega (arith, held .room))
-        ∙ ap₂ (λ (l : List ℕ) (n : ℕ). l ++ (n ∷ [])) (held .first) made
-        ∙ sym (take-suc numbers j none there);
+        take-suc-set cells j mv (omega (arith, held .room))
+        ∙ ap₂ (λ (l : List ℤ) (n : ℤ). l ++ (n ∷ [])) (held .first) made
+        ∙ sym (take-suc (converted adc bytes) j none there);
   }
 
 -- ---- in a turn
-module _ (c : tie.After-as-u32 Inv-loop μ-loop) where
+module _ (c : tie.After-millivolts Inv-loop μ-loop) where
   abbrev turn : tie.At-loop Inv-loop μ-loop
-  turn = c .before .before .before .before .before
+  turn = c .before .before .before .before
 
   abbrev j : ℕ
   j = turn .before .args .k + turn .loop .i
 
-  next : Held (turn .before .args .adc) (now (turn .before .args .buf)) (suc j) (set (turn .loop .cells) j (c .as-u32 .result))
+  next : Held (turn .before .args .adc) (now (turn .before .args .buf)) (suc j)
+      (set (turn .loop .cells) j (toZ w32 (ofZ w32 (c .millivolts .result))))
   next =
       let within : j < 16 = omega arith in
       one-more (turn .loop .inv .1) within
-      (c .as-u32 .ensures
-      ∙ ap asU32 (read-back w32 (c .before .millivolts .result) (c .before .millivolts .ok) ∙ c .before .millivolts .ensures)
-      ∙ next-is (turn .loop .inv .1) within)
+      (read-back w32 (c .millivolts .result) (c .millivolts .ok) ∙ c .millivolts .ensures ∙ next-is (turn .loop .inv .1) within)
 
 -- ---- the needs
 loop-holds : tie.Need-loop-holds Inv-loop μ-loop
@@ -98,17 +95,14 @@ element-copy-out-millivolts-2 c = omega arith
 millivolts-requires : tie.Need-millivolts-requires Inv-loop μ-loop
 millivolts-requires c κs = c .before .before .before .before .pre .0 .1
 
-as-u32-requires : tie.Need-as-u32-requires Inv-loop μ-loop
-as-u32-requires c κs = tt
+add-t19 : tie.Need-add-t19 Inv-loop μ-loop
+add-t19 c = omega arith
 
-add-cells : tie.Need-add-cells Inv-loop μ-loop
-add-cells c = omega arith
+mul-t20 : tie.Need-mul-t20 Inv-loop μ-loop
+mul-t20 c = omega arith
 
-mul-cells : tie.Need-mul-cells Inv-loop μ-loop
-mul-cells c = omega arith
-
-element-write-cells : tie.Need-element-write-cells Inv-loop μ-loop
-element-write-cells c = omega arith
+element-set-from-cells : tie.Need-element-set-from-cells Inv-loop μ-loop
+element-set-from-cells c = omega arith
 
 add-i : tie.Need-add-i Inv-loop μ-loop
 add-i c = omega arith
@@ -141,10 +135,9 @@ convert-eight-spec =
     add-millivolts-3
     element-copy-out-millivolts-2
     millivolts-requires
-    as-u32-requires
-    add-cells
-    mul-cells
-    element-write-cells
+    add-t19
+    mul-t20
+    element-set-from-cells
     add-i
     loop-less
     loop-again

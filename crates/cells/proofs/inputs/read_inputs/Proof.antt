@@ -1,14 +1,12 @@
 -- `cells::inputs::read_inputs` meets its contract. Assumes nothing.
 use mathlib.Core.Path.{_≡_, refl, sym, ap, _∙_}
-use mathlib.Core.List.{List, [], _++_, map}
+use mathlib.Core.List.{List, [], _++_}
 use Prim.Native.Nat.{ℕ, _*_}
 use native.Mathlib.Omega.{arith}
 use lib.IntN.{ℤ}
 use lib.ListN.{length, replicate, take, drop, length-append, length-drop}
 use lib.Seq.{take-at, length-take-le}
 use denote.Ref.{now}
-use Rattle.laws.proofs.Lists.{map-take}
-use Rattle.numbers.specs.Numbers.{asU32}
 use Rattle.refusals.specs.Refusal.{Refusal, Answer, value, refused}
 use Rattle.adc.specs.declared.transfer.AdcTransferFunction.{AdcTransferFunction}
 use Rattle.bus.specs.Transfers.{Bus, busOf}
@@ -55,18 +53,17 @@ module _ (s : tie.Start) where
     abbrev filled : List ℕ
     filled = bytes ++ drop n zeroes
 
-    none-held : {cells : List ℕ} → length cells ≡ 16 → Held adc filled 0 cells
+    none-held : {cells : List ℤ} → length cells ≡ 16 → Held adc filled 0 cells
     none-held room = record {
       from = length-append bytes (drop n zeroes) ∙ omega (arith, size, s .pre .0, length-drop n zeroes);
       room = room;
       first = refl;
     }
 
-    first-x : map asU32 (converted adc bytes) ≡ take (link .x) (map asU32 (converted adc filled))
+    first-x : converted adc bytes ≡ take (link .x) (converted adc filled)
     first-x =
-        ap (λ (l : List ℕ). map asU32 (converted adc l)) (sym (take-at bytes (drop n zeroes) n size))
-        ∙ ap (map asU32) (sym (first-converted adc filled (link .x)))
-        ∙ map-take asU32 (link .x) (converted adc filled)
+        ap (converted adc) (sym (take-at bytes (drop n zeroes) n size))
+        ∙ sym (first-converted adc filled (link .x))
 
     -- ---- and by what the read said
     module _ (r : Raw) (log : List ℕ)
@@ -81,7 +78,7 @@ module _ (s : tie.Start) where
             on = λ t. read-on _ _ n _ zeroed _ _ t;
           }
 
-      unread : {e : Refusal} {cells : List ℕ} → length cells ≡ 16 → asRaw (r .answer) ≡ refused e
+      unread : {e : Refusal} {cells : List ℤ} → length cells ≡ 16 → asRaw (r .answer) ≡ refused e
           → Taken link adc bus r cells log
       unread room t = record {
         readings = [];
@@ -90,7 +87,7 @@ module _ (s : tie.Start) where
         first = λ e. absurd (let z : _≡_ {A = ℕ} 0 1 = cc in omega arith);
       }
 
-      taken : {cells : List ℕ} → asRaw (r .answer) ≡ value tt → Held adc filled (link .x) cells
+      taken : {cells : List ℤ} → asRaw (r .answer) ≡ value tt → Held adc filled (link .x) cells
           → Taken link adc bus r cells log
       taken t held = record {
         readings = converted adc bytes;

@@ -1,9 +1,10 @@
 -- `cells::wired::read_wired` meets its contract. Assumes nothing.
 use mathlib.Core.Path.{_≡_, refl, sym, ap, _∙_}
 use mathlib.Core.List.{List, map}
-use Prim.Native.Nat.{ℕ, _-_, _≤_}
+use Prim.Native.Nat.{ℕ, _≤_}
 use native.Mathlib.Omega.{arith}
-use lib.ListN.{length, take, getD}
+use lib.IntN.{ℤ, pos}
+use lib.ListN.{length, take}
 use denote.Ref.{now}
 use borrow.Author.Needs.{needs}
 use Rattle.units.specs.declared.MilliVolts.{MilliVolts}
@@ -16,13 +17,14 @@ use Rattle.bus.specs.Raw.{asRaw}
 use Rattle.bus.specs.declared.link.Raw.{Raw}
 use Rattle.bq769x0.specs.Record.{withReadings}
 use Rattle.bq769x0.specs.declared.BQ769x0.{BQ769x0}
-use Rattle.bq769x0.proofs.Sizes.{sound-sizes}
+use Rattle.bq769x0.proofs.Sizes.{sound-sizes, sound-gain}
 use Rattle.laws.specs.Over.{_over_}
-use Rattle.moves.specs.Moves.{Move, moves, inTurn, named}
-use Rattle.moves.proofs.Front.{as-many}
-use Rattle.procedure.specs.Wired.{Shown, shown, unshown, showing, readWired}
+use Rattle.moves.specs.Moves.{Move, moves, inTurn}
+use Rattle.moves.proofs.Front.{length-turned}
+use Rattle.procedure.specs.Inputs.{asCells}
+use Rattle.procedure.specs.Wired.{ofInput, Shown, shown, unshown, showing, readWired}
 use Rattle.procedure.proofs.Fitted.{listed-within, listed-inputs, listed-volts}
-use Rattle.procedure.proofs.Moved.{sound-gain, taken}
+use Rattle.procedure.proofs.Moved.{taken}
 use Rattle.procedure.proofs.Reading.{unread, given}
 use Rattle.cells.specs.Inside.{Taken}
 use Rattle.cells.proofs.wired.read_wired.Statement.{statement}
@@ -44,7 +46,7 @@ module _ (s : tie.Start) where
   abbrev inputs : List ℕ
   inputs = now (s .args .inputs)
 
-  abbrev list : List ℕ
+  abbrev list : List ℤ
   list = now (s .args .list)
 
   abbrev tape : List ℕ
@@ -60,7 +62,7 @@ module _ (s : tie.Start) where
   few = sound-sizes device (s .pre .0)
 
   -- ---- by what was taken of the chip
-  module _ {r : Raw} {numbers log : List ℕ} (read : Taken (device .link) (device .adc) bus r numbers log) where
+  module _ {r : Raw} {numbers : List ℤ} {log : List ℕ} (read : Taken (device .link) (device .adc) bus r numbers log) where
     off : {e : Refusal} → asRaw (r .answer) ≡ refused e
         → whole ≡ record { answer = unshown device inputs list e; bus = busOf tape log (r .at) }
     unfolding readWired
@@ -68,15 +70,15 @@ module _ (s : tie.Start) where
         unread device 0 (unshown device inputs list) (showing device inputs list) bus
         (asRaw (r .answer)) (read .readings) _ (read .read) _ t
 
-    module _ (moved : List ℕ) (turned : map named moved ≡ inTurn all (map named numbers)) where
+    module _ (moved : List ℤ) (turned : moved ≡ inTurn (pos 0) all numbers) where
       long : length moved ≡ 16
-      long = as-many all numbers moved turned ∙ read .room
+      long = ap length turned ∙ length-turned (pos 0) all numbers ∙ read .room
 
-      on : {cells : List MilliVolts} {left : BQ769x0} {row inputs′ list′ : List ℕ} → asRaw (r .answer) ≡ value tt
+      on : {cells : List MilliVolts} {left : BQ769x0} {row inputs′ : List ℕ} {list′ : List ℤ} → asRaw (r .answer) ≡ value tt
           → row ≡ fifteen (fitted x n)
           → (inputs′ ≡ take n row over inputs)
-          × (list′ ≡ map (λ (input : ℕ). getD numbers (input - 1) 0) (take n row) over list)
-          → cells ≡ map named (take x moved) over device .readings .cells
+          × (list′ ≡ map (ofInput numbers) (take n row) over list)
+          → cells ≡ asCells (take x moved) over device .readings .cells
           → left ≡ withReadings device (record { cells = cells })
           → whole ≡ record { answer = shown (value tt) left inputs′ list′; bus = busOf tape log (r .at) }
       unfolding readWired
@@ -84,14 +86,14 @@ module _ (s : tie.Start) where
           let sound = s .pre .0 in
           let room : x ≤ length numbers = omega (arith, few, read .room) in
           let fits = lists .0 ∙ ap (λ (l : List ℕ). l over inputs) (listed-inputs device sound listing) in
-          let volts = lists .1 ∙ ap (λ (l : List ℕ). l over list) (listed-volts device sound (read .readings) numbers listing (read .first t)) in
+          let volts = lists .1 ∙ ap (λ (l : List ℤ). l over list) (listed-volts device sound (read .readings) numbers listing (read .first t)) in
           rw (fits, volts, taken device sound (read .readings) numbers moved room (read .first t) turned stored kept)
           (given device 0 (unshown device inputs list) (showing device inputs list) bus
           (asRaw (r .answer)) (read .readings) _ (read .read) t)
 
 -- ---- the places, each from the next
-abbrev at-start : tie.After-slice-known3 → tie.Start
-at-start c = c .before .before .before .before
+abbrev at-start : tie.After-slice-known2 → tie.Start
+at-start c = c .before .before .before
 
 abbrev at-read : tie.After-next → tie.After-read-inputs
 at-read c = c .before .before .before
@@ -99,8 +101,8 @@ at-read c = c .before .before .before
 abbrev at-fitted : tie.After-show → tie.After-fitted
 at-fitted c = c .before .before .before .before
 
-abbrev at-shown : tie.After-slice-known6 → tie.After-show
-at-shown c = c .before .before .before .before
+abbrev at-shown : tie.After-list → tie.After-show
+at-shown c = c .before .before .before
 
 abbrev at-turned : tie.After-stored → tie.After-in-turn
 at-turned c = c .before .before .before
@@ -124,7 +126,7 @@ module _ (c : tie.After-in-turn) where
   abbrev fits : tie.After-fitted
   fits = at-fitted shows
 
-  abbrev moved : List ℕ
+  abbrev moved : List ℤ
   moved = c .in-turn .last .1 .1 .0
 
   wide : length moved ≡ 16

@@ -1,23 +1,22 @@
 -- `cells::wired::show` meets its contract: a turn goes on from i cells to i + 1. Assumes nothing.
 use mathlib.Core.Path.{_≡_, refl, _∙_}
-use mathlib.Core.List.{List, map}
+use mathlib.Core.List.{map}
 use Prim.Native.Nat.{ℕ, _-_, _≤_, zero-le}
 use native.Mathlib.Omega.{arith}
 use lib.ListN.{length, take, getD, length-set}
+use mir.Syntax.{w32}
 use denote.Ref.{now}
 use Rattle.laws.specs.Over.{_over_}
+use Rattle.procedure.specs.Wired.{ofInput}
 use Rattle.laws.proofs.Lists.{map-take}
 use Rattle.laws.proofs.Over.{over-next, map-next}
+use Rattle.numbers.proofs.Signed.{read-back}
 use Rattle.cells.proofs.wired.show.Statement.{statement}
 use Rattle.cells.proofs.wired.show.Tie as tie
 
--- the number of an input, from 1
-abbrev of : List ℕ → ℕ → ℕ
-of millivolts input = getD millivolts (input - 1) 0
-
 abbrev Inv-loop : tie.InvT-loop
 Inv-loop n millivolts inputs₀ list₀ fitted i₀ inputs list i =
-    (i ≤ n) × (inputs ≡ take i fitted over inputs₀) × (list ≡ take i (map (of millivolts) fitted) over list₀)
+    (i ≤ n) × (inputs ≡ take i fitted over inputs₀) × (list ≡ take i (map (ofInput millivolts) fitted) over list₀)
     × (length inputs ≡ length inputs₀) × (length list ≡ length list₀) × (length fitted ≡ 15)
 
 abbrev μ-loop : tie.MeasureT-loop
@@ -52,11 +51,11 @@ mul-list c = omega (arith, one c)
 element-copy-out-list : tie.Need-element-copy-out-list Inv-loop μ-loop
 element-copy-out-list c = omega (arith, one c)
 
-mul-list-2 : tie.Need-mul-list-2 Inv-loop μ-loop
-mul-list-2 c = omega arith
+mul-t20 : tie.Need-mul-t20 Inv-loop μ-loop
+mul-t20 c = omega arith
 
-slice-write-list : tie.Need-slice-write-list Inv-loop μ-loop
-slice-write-list c = omega arith
+slice-set-from-list : tie.Need-slice-set-from-list Inv-loop μ-loop
+slice-set-from-list c = omega arith
 
 add-i : tie.Need-add-i Inv-loop μ-loop
 add-i c = omega arith
@@ -70,7 +69,8 @@ loop-again c =
     let a = c .before .before .before .args in (
       omega arith,
       over-next (a .t2) (now (a .inputs)) (l .i) 0 (l .inv .1) refl (omega arith) (omega arith),
-      map-next (of (now (a .millivolts))) (a .t2) (now (a .list)) (l .i) 0 (l .inv .2) refl (omega arith) (omega arith),
+      map-next (ofInput (now (a .millivolts))) (a .t2) (now (a .list)) (l .i) 0 (l .inv .2)
+          (read-back w32 _ (c .list .given)) (omega arith) (omega arith),
       simp length-set (l .inv .3),
       simp length-set (l .inv .4),
       l .inv .5,
@@ -87,7 +87,7 @@ returns c =
     let a = c .before .before .args in
     let e : c .before .loop .i ≡ a .n = omega arith in (
       c .before .loop .inv .1 ∙ rw e,
-      c .before .loop .inv .2 ∙ rw (e, map-take (of (now (a .millivolts))) (a .n) (a .t2)),
+      c .before .loop .inv .2 ∙ rw (e, map-take (ofInput (now (a .millivolts))) (a .n) (a .t2)),
     )
 
 pub show-spec : {M : Type 1} → statement M
@@ -103,8 +103,8 @@ show-spec =
     sub-list
     mul-list
     element-copy-out-list
-    mul-list-2
-    slice-write-list
+    mul-t20
+    slice-set-from-list
     add-i
     loop-less
     loop-again

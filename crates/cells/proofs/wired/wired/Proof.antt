@@ -4,6 +4,7 @@ use mathlib.Core.Bool.{true}
 use mathlib.Core.List.{List}
 use Prim.Native.Nat.{ℕ, _≤_, min}
 use native.Mathlib.Omega.{arith}
+use lib.IntN.{ℤ}
 use lib.ListN.{length}
 use denote.Ref.{now}
 use borrow.Author.Needs.{needs}
@@ -26,7 +27,7 @@ module _ (s : tie.Start) where
   abbrev inputs : List ℕ
   inputs = now (s .args .inputs)
 
-  abbrev list : List ℕ
+  abbrev list : List ℤ
   list = now (s .args .list)
 
   abbrev bus : Bus
@@ -46,8 +47,8 @@ module _ (s : tie.Start) where
   tests = tested device room leave (showing device inputs list) bus
 
 -- ---- the places, each from the next
-abbrev at-start : tie.After-slice-known3 → tie.Start
-at-start c = c .before .before .before .before
+abbrev at-start : tie.After-slice-known2 → tie.Start
+at-start c = c .before .before .before
 
 abbrev at-sound : tie.Else2 → tie.Else1
 at-sound c = c .before .before
@@ -58,8 +59,8 @@ at-marked c = c .before .before
 abbrev at-one : tie.Else4 → tie.Else3
 at-one c = c .before .before
 
-abbrev at-read : tie.After-slice-known5 → tie.After-read-wired
-at-read c = c .before .before .before .before
+abbrev at-read : tie.After-list → tie.After-read-wired
+at-read c = c .before .before .before
 
 module _ (c : tie.Else1) where
   abbrev start : tie.Start

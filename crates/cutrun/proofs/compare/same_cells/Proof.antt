@@ -14,17 +14,17 @@ abbrev μ-loop : tie.MeasureT-loop
 loop-holds : tie.Need-loop-holds Inv-loop μ-loop
 loop-holds c = search needs
 
-mul-if1 : tie.Need-mul-if1 Inv-loop μ-loop
-mul-if1 c = search needs
+mul-one : tie.Need-mul-one Inv-loop μ-loop
+mul-one c = search needs
 
-element-copy-out-if1 : tie.Need-element-copy-out-if1 Inv-loop μ-loop
-element-copy-out-if1 c = search needs
+array-copy-out-one : tie.Need-array-copy-out-one Inv-loop μ-loop
+array-copy-out-one c = search needs
 
-mul-if1-2 : tie.Need-mul-if1-2 Inv-loop μ-loop
-mul-if1-2 c = search needs
+mul-other : tie.Need-mul-other Inv-loop μ-loop
+mul-other c = search needs
 
-element-copy-out-if1-2 : tie.Need-element-copy-out-if1-2 Inv-loop μ-loop
-element-copy-out-if1-2 c = search needs
+array-copy-out-other : tie.Need-array-copy-out-other Inv-loop μ-loop
+array-copy-out-other c = search needs
 
 returns : tie.Need-returns Inv-loop μ-loop
 returns c = search needs
@@ -48,10 +48,10 @@ same-cells-spec =
     Inv-loop
     μ-loop
     loop-holds
-    mul-if1
-    element-copy-out-if1
-    mul-if1-2
-    element-copy-out-if1-2
+    mul-one
+    array-copy-out-one
+    mul-other
+    array-copy-out-other
     returns
     add-i
     loop-less

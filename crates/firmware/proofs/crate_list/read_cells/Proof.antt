@@ -2,8 +2,9 @@
 use mathlib.Core.Path.{_≡_, sym, _∙_}
 use mathlib.Core.Bool.{true, false}
 use mathlib.Core.List.{List, []}
-use Prim.Native.Nat.{ℕ, _≤_}
-use lib.ListN.{length, replicate, length-map}
+use Prim.Native.Nat.{ℕ}
+use lib.IntN.{ℤ, pos}
+use lib.ListN.{length, replicate}
 use denote.Ref.{now}
 use borrow.Author.Needs.{needs}
 use borrow.Author.Tests.{not-true, not-false}
@@ -18,8 +19,7 @@ use Rattle.procedure.specs.Cells.{Filled, filled, cellVoltages}
 use Rattle.cells.specs.declared.Cells.{Cells}
 use Rattle.layout.specs.Cells.{hasRoom}
 use Rattle.firmware.specs.JobCells.{Listed, listed, unlisted, storing, readCells}
-use Rattle.layout.proofs.Room.{has-room-is}
-use Rattle.firmware.proofs.Reading.{room, no-room, Stores, same-stored}
+use Rattle.firmware.proofs.Reading.{room, no-room, Stores}
 use Rattle.firmware.proofs.crate_list.read_cells.Statement.{statement}
 use Rattle.firmware.proofs.crate_list.read_cells.Tie as tie
 
@@ -44,25 +44,24 @@ module _ (s : tie.Start) where
   whole = onTape (readCells list values device) bus
 
   abbrev given : Filled → Listed
-  given read = storing count (read .device .readings .cells) list values (read .device) (read .answer)
+  given read = storing count (read .list) list values (read .device) (read .answer)
 
   refused-19 : hasRoom count (length list) ≡ false
       → whole ≡ record { answer = unlisted device list (no 19 []); bus = bus }
   unfolding readCells
-  refused-19 = no-room count list (unlisted device list) (cellVoltages device (replicate 15 0)) given bus
+  refused-19 = no-room count list (unlisted device list) (cellVoltages device (replicate 15 (pos 0))) given bus
 
   -- the reading's outcome, and what was stored of it
   came : hasRoom count (length list) ≡ true
-      → (r : Cells) (numbers log′ : List ℕ) (left : Init) (list′ : List ℕ)
-      → ran (filled (asRaw (r .answer)) (r .device) numbers) (bus .tape) log′ (r .at)
-      ≡ onTape (cellVoltages device (replicate 15 0)) bus
-      → count ≤ length (r .device .readings .cells)
-      → Stores count numbers list values r left list′
+      → (r : Cells) (mvs : List ℤ) (log′ : List ℕ) (left : Init) (list′ : List ℕ)
+      → ran (filled (asRaw (r .answer)) (r .device) mvs) (bus .tape) log′ (r .at)
+      ≡ onTape (cellVoltages device (replicate 15 (pos 0))) bus
+      → Stores count mvs list values r left list′
       → ran (listed (asInit (left .answer)) (left .device) list′) (bus .tape) log′ (left .at) ≡ whole
   unfolding readCells
-  came roomy r numbers log′ left list′ read more stored =
-      rw (stored .0, stored .1, same-stored device bus more read list values)
-      (sym (room count list (unlisted device list) (cellVoltages device (replicate 15 0)) given bus roomy read))
+  came roomy r mvs log′ left list′ read stored =
+      rw (stored .0, stored .1)
+      (sym (room count list (unlisted device list) (cellVoltages device (replicate 15 (pos 0))) given bus roomy read))
 
 -- ---- the places, each from a later one
 abbrev at-start : tie.After-slice-known2 → tie.Start
@@ -87,27 +86,17 @@ module _ (c : tie.After-cell-voltages) where
   abbrev s : tie.Start
   s = start (at-room c)
 
-  abbrev numbers : List ℕ
-  numbers = c .cell-voltages .last .1 .0
+  abbrev mvs : List ℤ
+  mvs = c .cell-voltages .last .1 .0
 
   abbrev log : List ℕ
   log = c .cell-voltages .last .1 .1 .1 .0
 
-  -- the record that was returned has an array of fifteen, as all of its type have
-  fifteen : length (c .cell-voltages .result .device .readings .cells) ≡ 15
-  fifteen =
-      let device = c .cell-voltages .ok .1 .1 .1 .0 in
-      let cells = device .1 .1 .1 .1 .1 .1 .1 .0 .1 .1 .0 in
-      sym (length-map (c .cell-voltages .result .device .readings .cells) _) ∙ cells .1 .0 .1
-
-  enough : count s ≤ length (c .cell-voltages .result .device .readings .cells)
-  enough = rw fifteen (has-room-is _ _ (roomy (at-room c)) .1)
-
   read-is : (left : Init) (list′ : List ℕ)
-      → Stores (count s) numbers (list s) (values s) (c .cell-voltages .result) left list′
+      → Stores (count s) mvs (list s) (values s) (c .cell-voltages .result) left list′
       → ran (listed (asInit (left .answer)) (left .device) list′) (bus s .tape) log (left .at) ≡ whole s
   read-is left list′ =
-      came s (roomy (at-room c)) (c .cell-voltages .result) numbers log left list′ (c .cell-voltages .ensures) enough
+      came s (roomy (at-room c)) (c .cell-voltages .result) mvs log left list′ (c .cell-voltages .ensures)
 
 -- ---- the needs
 has-room-requires : tie.Need-has-room-requires

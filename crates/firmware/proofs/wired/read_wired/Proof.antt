@@ -1,8 +1,9 @@
 -- `firmware::wired::read_wired` meets its contract. Assumes nothing.
 use mathlib.Core.Path.{_≡_, sym, _∙_}
 use mathlib.Core.Bool.{true, false}
-use mathlib.Core.List.{List, [], map}
+use mathlib.Core.List.{List, []}
 use Prim.Native.Nat.{ℕ}
+use lib.IntN.{ℤ, pos}
 use lib.ListN.{length, replicate}
 use denote.Ref.{now}
 use borrow.Author.Needs.{needs}
@@ -16,7 +17,7 @@ use Rattle.bq769x0.specs.declared.BQ769x0.{BQ769x0}
 use Rattle.setup.specs.declared.left.Init.{Init}
 use Rattle.procedure.specs.Wired.{Shown, shown, wired}
 use Rattle.cells.specs.declared.Cells.{Cells}
-use Rattle.layout.specs.Cells.{cellOf, hasRoom}
+use Rattle.layout.specs.Cells.{hasRoom}
 use Rattle.firmware.specs.JobCells.{listed, storing}
 use Rattle.firmware.specs.JobWired.{Beside, beside, unlisted, readWired}
 use Rattle.firmware.proofs.Reading.{room, no-room, Stores}
@@ -48,26 +49,26 @@ module _ (s : tie.Start) where
 
   abbrev given : Shown → Beside
   given read = record {
-    listed = storing count (map cellOf (read .list)) list values (read .device) (read .answer);
+    listed = storing count (read .list) list values (read .device) (read .answer);
     inputs = read .inputs;
   }
 
   refused-19 : hasRoom count (length list) ≡ false
       → whole ≡ record { answer = unlisted device inputs list (no 19 []); bus = bus }
   unfolding readWired
-  refused-19 = no-room count list (unlisted device inputs list) (wired device inputs (replicate 15 0)) given bus
+  refused-19 = no-room count list (unlisted device inputs list) (wired device inputs (replicate 15 (pos 0))) given bus
 
   -- the reading's outcome, and what was stored of it
   came : hasRoom count (length list) ≡ true
-      → (r : Cells) (inputs′ numbers log′ : List ℕ) (left : Init) (list′ : List ℕ)
-      → ran (shown (asRaw (r .answer)) (r .device) inputs′ numbers) (bus .tape) log′ (r .at)
-      ≡ onTape (wired device inputs (replicate 15 0)) bus
-      → Stores count numbers list values r left list′
+      → (r : Cells) (inputs′ : List ℕ) (mvs : List ℤ) (log′ : List ℕ) (left : Init) (list′ : List ℕ)
+      → ran (shown (asRaw (r .answer)) (r .device) inputs′ mvs) (bus .tape) log′ (r .at)
+      ≡ onTape (wired device inputs (replicate 15 (pos 0))) bus
+      → Stores count mvs list values r left list′
       → ran (beside (asInit (left .answer)) (left .device) inputs′ list′) (bus .tape) log′ (left .at) ≡ whole
   unfolding readWired
-  came roomy r inputs′ numbers log′ left list′ read stored =
+  came roomy r inputs′ mvs log′ left list′ read stored =
       rw (stored .0, stored .1)
-      (sym (room count list (unlisted device inputs list) (wired device inputs (replicate 15 0)) given bus roomy read))
+      (sym (room count list (unlisted device inputs list) (wired device inputs (replicate 15 (pos 0))) given bus roomy read))
 
 -- ---- the places, each from a later one
 abbrev at-start : tie.After-slice-known3 → tie.Start
@@ -101,17 +102,17 @@ module _ (c : tie.After-wired) where
   abbrev shown-inputs : List ℕ
   shown-inputs = c .wired .last .1 .0
 
-  abbrev numbers : List ℕ
-  numbers = c .wired .last .1 .1 .0
+  abbrev mvs : List ℤ
+  mvs = c .wired .last .1 .1 .0
 
   abbrev log : List ℕ
   log = c .wired .last .1 .1 .1 .1 .0
 
   read-is : (left : Init) (list′ : List ℕ)
-      → Stores (count s) numbers (list s) (values s) (c .wired .result) left list′
+      → Stores (count s) mvs (list s) (values s) (c .wired .result) left list′
       → ran (beside (asInit (left .answer)) (left .device) shown-inputs list′) (bus s .tape) log (left .at) ≡ whole s
   read-is left list′ =
-      came s (roomy (at-room c)) (c .wired .result) shown-inputs numbers log left list′ (c .wired .ensures)
+      came s (roomy (at-room c)) (c .wired .result) shown-inputs mvs log left list′ (c .wired .ensures)
 
 -- ---- the needs
 has-room-requires : tie.Need-has-room-requires

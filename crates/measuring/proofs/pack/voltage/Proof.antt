@@ -2,9 +2,9 @@
 use mathlib.Core.Path.{_≡_, sym, ap, _∙_}
 use mathlib.Core.Bool.{true, false}
 use Prim.Native.Nat.{ℕ}
+use lib.IntN.{ℤ}
 use denote.Ref.{now}
 use borrow.Author.Tests.{not-true, not-false}
-use Rattle.numbers.specs.Numbers.{asU32}
 use Rattle.refusals.specs.Refusal.{Answer, value, refused, nine}
 use Rattle.adc.specs.Conversion.{packMillivolts}
 use Rattle.bus.specs.Transfers.{Bus, busOf}
@@ -28,11 +28,11 @@ module _ (s : tie.Start) where
   abbrev bus : Bus
   bus = busOf (now (s .args .tape)) (now (s .args .log)) (s .args .at)
 
-  abbrev whole : Ran (Answer ℕ)
+  abbrev whole : Ran (Answer ℤ)
   whole = onTape (voltage device) bus
 
-  abbrev volts : ℕ → Answer ℕ
-  volts reading = value (asU32 (packMillivolts 5 (device .adc .gain) (device .adc .offset) reading))
+  abbrev volts : ℕ → Answer ℤ
+  volts reading = value (packMillivolts 5 (device .adc .gain) (device .adc .offset) reading)
 
   refused-9 : isSound device ≡ false → whole ≡ record { answer = refused nine; bus = bus }
   unfolding voltage

@@ -2,7 +2,6 @@
 use borrow.Author.Needs.{needs}
 use mathlib.Core.Path.{_∙_, ap}
 use Prim.Native.Nat.{ℕ, _*_, _/_}
-use Rattle.numbers.specs.Numbers.{asU32}
 use Rattle.adc.specs.Conversion.{millivolts}
 use Rattle.plan.proofs.six_bytes.values.Statement.{statement}
 use Rattle.plan.proofs.six_bytes.values.Tie as tie
@@ -52,7 +51,7 @@ apply-requires-2 c κs = search needs
 returns : tie.Need-returns
 returns c =
     let args = at-mv (at-uv c) .before .args in
-    let at : ℕ → ℕ = λ reading. asU32 (millivolts (args .adc .gain) (args .adc .offset) reading) in
+    let at = millivolts (args .adc .gain) (args .adc .offset) in
     let uv = c .before .before .apply .ensures ∙ ap at (at-uv c .uv-trip-reading .ensures) in
     let ov = c .apply2 .ensures ∙ ap at (c .before .ov-trip-reading .ensures) in
     λ i.

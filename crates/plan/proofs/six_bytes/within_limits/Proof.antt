@@ -3,7 +3,7 @@ use borrow.Author.Tests.{not-true, not-false}
 use borrow.Author.Needs.{needs}
 use mathlib.Core.Path.{_≡_, sym, _∙_}
 use mathlib.Core.Bool.{true, false}
-use Prim.Native.Nat.{ℕ}
+use lib.IntN.{ℤ}
 use Rattle.refusals.specs.Refusal.{Answer, value, refused, no}
 use Rattle.plan.specs.Trips.{ovLimits, figures, obtainableOr, withinFor}
 use Rattle.plan.proofs.Obtained.{obtained, unobtained}
@@ -16,7 +16,7 @@ module _ (c : tie.After-obtainable) where
   abbrev start : tie.Start
   start = c .before .before
 
-  abbrev ov : ℕ
+  abbrev ov : ℤ
   ov = start .args .config .«ov_threshold» .0
 
   abbrev ov-tested : Answer (Unit {0})
@@ -33,7 +33,7 @@ module _ (c : tie.After-obtainable2) where
   abbrev at-ov : tie.After-obtainable
   at-ov = c .before .before .before
 
-  abbrev uv : ℕ
+  abbrev uv : ℤ
   uv = start at-ov .args .config .«uv_threshold» .0
 
   abbrev both-tested : Answer (Unit {0})

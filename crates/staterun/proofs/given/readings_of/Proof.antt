@@ -22,6 +22,9 @@ add-four c = search needs
 four-requires : tie.Need-four-requires Inv-loop μ-loop
 four-requires c κs = search needs
 
+as-i32-requires : tie.Need-as-i32-requires Inv-loop μ-loop
+as-i32-requires c κs = search needs
+
 mul-cells : tie.Need-mul-cells Inv-loop μ-loop
 mul-cells c = search needs
 
@@ -50,6 +53,7 @@ readings-of-spec =
     mul-four
     add-four
     four-requires
+    as-i32-requires
     mul-cells
     array-set-from-cells
     add-i

@@ -1,22 +1,44 @@
 -- `adc::transfer::AdcTransferFunction::pack_voltage` meets its contract. Assumes nothing.
 use borrow.Author.Needs.{needs}
-use mathlib.Core.Path.{_∙_, ap}
-use mir.Syntax.{w32}
-use Rattle.numbers.specs.Numbers.{asU32}
-use Rattle.numbers.proofs.Signed.{read-back}
+use mathlib.Core.Path.{_∙_}
+use Prim.Native.Nat.{_*_, _≤_}
+use native.Mathlib.Omega.{arith}
+use mir.Syntax.{w8, w32}
+use Rattle.numbers.proofs.Signed.{product≤, read-back}
 use Rattle.adc.proofs.transfer.AdcTransferFunction.pack_voltage.Statement.{statement}
 use Rattle.adc.proofs.transfer.AdcTransferFunction.pack_voltage.Tie as tie
 
-pack-millivolts-requires : tie.Need-pack-millivolts-requires
-pack-millivolts-requires c κs = search needs
+product : (c : tie.After-struct-known) → 4 * c .before .before .args .self .gain * c .before .before .args .adc-reading ≤ 4 * 65535 * 65535
+product c = product≤ (4 * 65535) 65535 (omega arith) (omega arith)
 
-as-u32-requires : tie.Need-as-u32-requires
-as-u32-requires c κs = search needs
+cast-per-thousand : tie.Need-cast-per-thousand
+cast-per-thousand c = search needs
+
+mul-per-thousand : tie.Need-mul-per-thousand
+mul-per-thousand c = search needs
+
+mul-per-thousand-2 : tie.Need-mul-per-thousand-2
+mul-per-thousand-2 c = omega (arith, product c)
+
+mul-per-thousand-3 : tie.Need-mul-per-thousand-3
+mul-per-thousand-3 c = search needs
+
+per-thousand-requires : tie.Need-per-thousand-requires
+per-thousand-requires c κs = omega (arith, product c)
 
 returns : tie.Need-returns
 returns c =
-    c .as-u32 .ensures
-    ∙ ap asU32 (read-back w32 _ (c .before .pack-millivolts .ok) ∙ c .before .pack-millivolts .ensures)
+    let told = c .before .before in
+    read-back w32 _ (c .per-thousand .ok)
+    ∙ simp (read-back w8 (told .before .args .self .offset) (told .struct-told .given .1 .0 .1)) at (c .per-thousand .ensures)
 
 pub pack-voltage-spec : {M : Type 1} → statement M
-pack-voltage-spec = tie.close (tie.spec pack-millivolts-requires as-u32-requires returns)
+pack-voltage-spec =
+    tie.close
+    (tie.spec
+    cast-per-thousand
+    mul-per-thousand
+    mul-per-thousand-2
+    mul-per-thousand-3
+    per-thousand-requires
+    returns)

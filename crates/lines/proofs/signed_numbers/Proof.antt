@@ -1,9 +1,9 @@
--- `lines::numbers` ends. Assumes nothing.
+-- `lines::signed_numbers` ends. Assumes nothing.
 use Prim.Native.Nat.{_-_}
 use lib.ListN.{length}
 use borrow.Author.Needs.{needs}
-use Rattle.lines.proofs.numbers.Statement.{statement}
-use Rattle.lines.proofs.numbers.Tie as tie
+use Rattle.lines.proofs.signed_numbers.Statement.{statement}
+use Rattle.lines.proofs.signed_numbers.Tie as tie
 
 abbrev Inv-loop : tie.InvT-loop
 Inv-loop name list count i₀ t5 i = Unit {0}
@@ -17,17 +17,14 @@ words-requires c κs = search needs
 loop-holds : tie.Need-loop-holds Inv-loop μ-loop
 loop-holds c = search needs
 
-mul-wide : tie.Need-mul-wide Inv-loop μ-loop
-mul-wide c = search needs
+mul-signed-number : tie.Need-mul-signed-number Inv-loop μ-loop
+mul-signed-number c = search needs
 
-shared-slice-read-wide : tie.Need-shared-slice-read-wide Inv-loop μ-loop
-shared-slice-read-wide c = search needs
+shared-slice-copy-out-signed-number : tie.Need-shared-slice-copy-out-signed-number Inv-loop μ-loop
+shared-slice-copy-out-signed-number c = search needs
 
-wide-requires : tie.Need-wide-requires Inv-loop μ-loop
-wide-requires c κs = search needs
-
-number-requires : tie.Need-number-requires Inv-loop μ-loop
-number-requires c κs = search needs
+signed-number-requires : tie.Need-signed-number-requires Inv-loop μ-loop
+signed-number-requires c κs = search needs
 
 add-i : tie.Need-add-i Inv-loop μ-loop
 add-i c = search needs
@@ -47,18 +44,17 @@ words-requires-2 c κs = search needs
 returns : tie.Need-returns Inv-loop μ-loop
 returns c = search needs
 
-pub numbers-spec : {M : Type 1} → statement M
-numbers-spec =
+pub signed-numbers-spec : {M : Type 1} → statement M
+signed-numbers-spec =
     tie.close
     (tie.spec
     Inv-loop
     μ-loop
     words-requires
     loop-holds
-    mul-wide
-    shared-slice-read-wide
-    wide-requires
-    number-requires
+    mul-signed-number
+    shared-slice-copy-out-signed-number
+    signed-number-requires
     add-i
     loop-less
     loop-again

@@ -1,0 +1,18 @@
+-- The crate's own two lines for a voltage, which hand it on as a u32: below zero 2^32 less its size.
+-- They are in whole numbers here; the crate computes them in `i32`.
+-- Assumes nothing.
+use Prim.Native.Nat.{ℕ}
+use lib.IntN.{ℤ, pos, _+ℤ_, _*ℤ_}
+use Rattle.numbers.specs.Numbers.{_÷_, asU32}
+
+-- let uv = adc_reading * self.gain as i32 + self.offset as i32 * 1000
+abbrev pub crateUv : ℕ → ℤ → ℕ → ℤ
+crateUv gain offset reading = pos reading *ℤ pos gain +ℤ offset *ℤ pos 1000
+
+-- let voltage = 4 * (self.adc_gain as i32) * (vv as i32) + 5 * (self.adc_offset as i32) * 1000
+abbrev pub cratePackUv : ℕ → ℤ → ℕ → ℤ
+cratePackUv gain offset reading = pos 4 *ℤ pos gain *ℤ pos reading +ℤ pos 5 *ℤ offset *ℤ pos 1000
+
+-- MilliVolts((uv / 1000) as u32)
+abbrev pub crateMillivolts : ℤ → ℕ
+crateMillivolts uv = asU32 (uv ÷ 1000)
