@@ -7,12 +7,14 @@ use mathlib.Core.List.{List, [], _∷_, _++_, map, map-map}
 use Prim.Native.Nat.{ℕ, zero, suc, _-_, _*_, _≤_, _<_}
 use native.Mathlib.Omega.{arith}
 use lib.Dec.{T, eqb, leb, eqb→eq, leb→le}
-use lib.IntN.{ℤ, pos, natAbs}
+use lib.IntN.{ℤ, pos, negℤ, natAbs}
+use lib.Signed.{mag, _≤ℤ_}
 use lib.Seq.{length-take-le}
 use lib.ListN.{length, take, drop, getD, length-map, length-append, length-drop, List·getD-append, List·getD-map}
 use borrow.Author.Tests.{eq-eqb}
 use Rattle.laws.proofs.Tests.{both-left, both-right, agree, agreeing}
 use Rattle.refusals.specs.Refusal.{value}
+use Rattle.refusals.proofs.Values.{same-value}
 use Rattle.sizes.specs.Sizes.{isCount}
 use Rattle.wiring.specs.Tables.{fitted}
 use Rattle.wiring.proofs.Packs.{of-pack}
@@ -22,6 +24,7 @@ use Rattle.bus.specs.Programs.{Ran, ran, onTape}
 use Rattle.bus.specs.Raw.{asRaw, readBytes}
 use Rattle.bus.specs.declared.link.RawAnswer.the-variants as R
 use Rattle.bus.proofs.Sized.{bytes-size}
+use Rattle.bq769x0.specs.Record.{isSound}
 use Rattle.bq769x0.specs.declared.BQ769x0.{BQ769x0}
 use Rattle.laws.specs.Over.{_over_}
 use Rattle.moves.specs.Moves.{moves, inTurn, names, inputsOf}
@@ -30,12 +33,12 @@ use Rattle.procedure.specs.Cells.{Filled, filled, taking, untouched, volts, fir
 use Rattle.procedure.specs.Cells.{readCells, cellVoltages}
 use Rattle.procedure.specs.Wired.{ofRegisters, ofInput, voltages}
 use Rattle.cells.specs.declared.Cells.{Cells}
-use Rattle.cells.proofs.ByRegisters.{of-input, ByRegisters}
+use Rattle.cells.proofs.ByRegisters.{of-input, registers-range, kth-listed, ByRegisters}
 use Rattle.moves.proofs.CrateList.{at, at-input, shows}
 use Rattle.laws.proofs.Lists.{map-same, map-take}
 use Rattle.procedure.proofs.Converted.{length-converted}
 use Rattle.procedure.proofs.Reading.{by-call}
-use Rattle.bq769x0.proofs.Sizes.{sound-pack}
+use Rattle.bq769x0.proofs.Sizes.{sound-pack, sound-gain}
 
 abbrev pub alike : ℕ → ℕ → Bool
 alike x n = eqb x 5 || eqb x 15 && leb 14 n
@@ -152,15 +155,15 @@ module _ (d : BQ769x0) (held : length (d .readings .cells) ≡ 15)
       only-those x n pack (sym (counted-off .0) ∙ ap (map natAbs) alike ∙ counted-off .1)
 
 -- ---- an accepted run of the crate's call, by registers
-module _ (d : BQ769x0) (held : length (d .readings .cells) ≡ 15) (b : Bus) (list : List ℤ) where
-  abbrev Shows : List ℤ → Type 0
-  Shows list′ =
-      (bytes : List ℕ)
-      × (onTape (readBytes (d .link) 0x0C (2 * d .link .x)) b .answer ≡ value bytes)
-      × (list′ ≡ map (ofRegisters (d .adc) bytes) (inputsOf (d .link .x) (d .«cell_count»)) over list)
+pub record ByCrate (d : BQ769x0) (b : Bus) (list list′ : List ℤ) : Type 0 where
+  pub sound : isSound d ≡ true
+  pub bytes : List ℕ
+  pub read : onTape (readBytes (d .link) 0x0C (2 * d .link .x)) b .answer ≡ value bytes
+  pub volts : list′ ≡ map (ofRegisters (d .adc) bytes) (inputsOf (d .link .x) (d .«cell_count»)) over list
 
+module _ (d : BQ769x0) (held : length (d .readings .cells) ≡ 15) (b : Bus) (list : List ℤ) where
   abbrev Accepted : Ran Filled → Type 0
-  Accepted r = r .answer .answer ≡ value tt → Shows (r .answer .list)
+  Accepted r = r .answer .answer ≡ value tt → ByCrate d b list (r .answer .list)
 
   accepted : Accepted (onTape (cellVoltages d list) b)
   unfolding cellVoltages readCells
@@ -175,22 +178,39 @@ module _ (d : BQ769x0) (held : length (d .readings .cells) ≡ 15) (b : Bus) (li
       ∙ map-same _ (ofRegisters (d .adc) bytes) (inputsOf (d .link .x) (d .«cell_count»)) λ k h.
       let within = shown-within (d .link .x) (d .«cell_count») pack k h in
       of-input (d .adc) bytes (d .link .x) _ size (within .0) (within .1) in
-      (bytes, read, ap (λ (l : List ℤ). l over list) listing)
+      record { sound = sound; bytes = bytes; read = read; volts = ap (λ (l : List ℤ). l over list) listing }
 
   pub crate-by-registers : (r : Cells) (list′ : List ℤ) (log : List ℕ)
       → ran (filled (asRaw (r .answer)) (r .device) list′) (b .tape) log (r .at) ≡ onTape (cellVoltages d list) b
-      → r .answer ≡ R.Done → Shows list′
+      → r .answer ≡ R.Done → ByCrate d b list list′
   crate-by-registers r list′ log promise done = subst⁻¹ Accepted promise accepted (ap asRaw done)
 
-  -- ---- on those packs the two calls leave the same list
-  pub both-alike : alike (d .link .x) (d .«cell_count») ≡ true → (inputs inputs″ : List ℕ) (list′ list″ : List ℤ)
-      → Shows list′
-      → ByRegisters d b inputs list inputs″ list″
-      → list′ ≡ list″
-  both-alike e inputs inputs″ list′ list″ crate wiring =
-      let bytes : crate .0 ≡ wiring .bytes = cc in
-      let fits = same-inputs (d .link .x) (d .«cell_count») (sound-pack d (wiring .sound)) e in
-      crate .2
-      ∙ ap (λ (l : List ℕ). map (ofRegisters (d .adc) l) (inputsOf (d .link .x) (d .«cell_count»)) over list) bytes
-      ∙ ap (λ (l : List ℕ). map (ofRegisters (d .adc) (wiring .bytes)) l over list) fits
-      ∙ sym (wiring .volts)
+-- ---- the cell at a place, from 0
+module _ {d : BQ769x0} {b : Bus} {list list′ : List ℤ} (read : ByCrate d b list list′)
+    (k : ℕ) (h : k < length (inputsOf (d .link .x) (d .«cell_count»))) where
+  abbrev input : ℕ
+  input = getD (inputsOf (d .link .x) (d .«cell_count»)) k 0
+
+  pub kth-cell : getD list′ k (pos 0) ≡ ofRegisters (d .adc) (read .bytes) input
+  kth-cell =
+      ap (λ (l : List ℤ). getD l k (pos 0)) (read .volts)
+      ∙ kth-listed (ofRegisters (d .adc) (read .bytes)) (inputsOf (d .link .x) (d .«cell_count»)) list k h
+
+  pub kth-cell-range : ((i : ℕ) → getD (read .bytes) i 0 < 256) → mag (d .adc .offset) < 128
+      → (negℤ (pos 128) ≤ℤ getD list′ k (pos 0)) × (getD list′ k (pos 0) ≤ℤ pos 26078)
+  kth-cell-range small byte =
+      rw kth-cell (registers-range (d .adc) (read .bytes) input small byte (sound-gain d (read .sound)))
+
+-- ---- on those packs the two calls leave the same list
+pub both-alike : {d : BQ769x0} {b : Bus} {list : List ℤ} {inputs inputs″ : List ℕ} {list′ list″ : List ℤ}
+    → alike (d .link .x) (d .«cell_count») ≡ true
+    → ByCrate d b list list′
+    → ByRegisters d b inputs list inputs″ list″
+    → list′ ≡ list″
+both-alike {d} {b} {list} e crate wiring =
+    let bytes : crate .bytes ≡ wiring .bytes = same-value (sym (crate .read) ∙ wiring .read) in
+    let fits = same-inputs (d .link .x) (d .«cell_count») (sound-pack d (wiring .sound)) e in
+    crate .volts
+    ∙ ap (λ (l : List ℕ). map (ofRegisters (d .adc) l) (inputsOf (d .link .x) (d .«cell_count»)) over list) bytes
+    ∙ ap (λ (l : List ℕ). map (ofRegisters (d .adc) (wiring .bytes)) l over list) fits
+    ∙ sym (wiring .volts)

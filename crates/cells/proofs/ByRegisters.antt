@@ -52,6 +52,30 @@ of-input adc bytes x input size low high =
     ∙ converted-at adc bytes i there
     ∙ ap (millivolts (adc .gain) (adc .offset)) words
 
+-- ---- where these hold bytes, on a device: the crate's u32, read in two's complement, and what an input can have
+module _ (adc : AdcTransferFunction) (bytes : List ℕ) (input : ℕ)
+    (small : (i : ℕ) → getD bytes i 0 < 256) (byte : mag (adc .offset) < 128) (device : adc .gain ≤ 396) where
+  abbrev reading : ℕ
+  reading = word (byteOf bytes (highOf input)) (byteOf bytes (highOf input + 1))
+
+  reads : reading < 65536
+  reads = omega (arith, small (highOf input - 0x0C), small (highOf input + 1 - 0x0C))
+
+  pub registers-crate : asI32 (crateMillivolts (crateUv (adc .gain) (adc .offset) reading)) ≡ ofRegisters adc bytes input
+  registers-crate = crate-input (adc .gain) (adc .offset) reading reads byte (omega arith)
+
+  pub registers-range : (negℤ (pos 128) ≤ℤ ofRegisters adc bytes input) × (ofRegisters adc bytes input ≤ℤ pos 26078)
+  registers-range = input-range (adc .gain) (adc .offset) reading reads byte device
+
+-- ---- the place of an input in a list of voltages over another
+pub kth-listed : (f : ℕ → ℤ) (inputs : List ℕ) (list : List ℤ) (k : ℕ) → k < length inputs
+    → getD (map f inputs over list) k (pos 0) ≡ f (getD inputs k 0)
+kth-listed f inputs list k h =
+    let there : k < length (map f inputs) = rw (length-map inputs f) h in
+    List·getD-append (map f inputs) _ (pos 0) k there
+    ∙ getD-any (map f inputs) k (pos 0) (f 0) there
+    ∙ List·getD-map f inputs k 0
+
 -- ---- an accepted reading, from the lists lent to the lists left
 pub record ByRegisters (d : BQ769x0) (b : Bus) (inputs : List ℕ) (list : List ℤ) (inputs′ : List ℕ) (list′ : List ℤ) : Type 0 where
   pub sound : isSound d ≡ true
@@ -105,30 +129,20 @@ module _ {d : BQ769x0} {b : Bus} {inputs inputs′ : List ℕ} {list list′ : L
 
   pub kth-voltage : getD list′ k (pos 0) ≡ ofRegisters (d .adc) (read .bytes) (inputAt x n k)
   kth-voltage =
-      let f = ofRegisters (d .adc) (read .bytes) in
-      let there : k < length (map f (fitted x n)) = rw (length-map (fitted x n) f) more in
       ap (λ (l : List ℤ). getD l k (pos 0)) (read .volts)
-      ∙ List·getD-append (map f (fitted x n)) _ (pos 0) k there
-      ∙ getD-any (map f (fitted x n)) k (pos 0) (f 0) there
-      ∙ List·getD-map f (fitted x n) k 0
+      ∙ kth-listed (ofRegisters (d .adc) (read .bytes)) (fitted x n) list k more
 
-  -- where bytes were read, and the offset is an `i8`: the crate's u32, read in two's complement, and what an input can have
-  module _ (bytes : (i : ℕ) → getD (read .bytes) i 0 < 256) (byte : mag (d .adc .offset) < 128) where
-    abbrev reading : ℕ
-    reading =
-        word (byteOf (read .bytes) (highOf (inputAt x n k))) (byteOf (read .bytes) (highOf (inputAt x n k) + 1))
-
-    reads : reading < 65536
-    reads = omega (arith, bytes (highOf (inputAt x n k) - 0x0C), bytes (highOf (inputAt x n k) + 1 - 0x0C))
-
-    pub kth-crate : asI32 (crateMillivolts (crateUv (d .adc .gain) (d .adc .offset) reading)) ≡ getD list′ k (pos 0)
+  module _ (small : (i : ℕ) → getD (read .bytes) i 0 < 256) (byte : mag (d .adc .offset) < 128) where
+    pub kth-crate :
+        asI32 (crateMillivolts (crateUv (d .adc .gain) (d .adc .offset)
+        (word (byteOf (read .bytes) (highOf (inputAt x n k))) (byteOf (read .bytes) (highOf (inputAt x n k) + 1)))))
+        ≡ getD list′ k (pos 0)
     kth-crate =
-        crate-input (d .adc .gain) (d .adc .offset) reading reads byte (omega (arith, sound-gain d (read .sound)))
-        ∙ sym kth-voltage
+        registers-crate (d .adc) (read .bytes) (inputAt x n k) small byte (sound-gain d (read .sound)) ∙ sym kth-voltage
 
     pub kth-range : (negℤ (pos 128) ≤ℤ getD list′ k (pos 0)) × (getD list′ k (pos 0) ≤ℤ pos 26078)
     kth-range =
-        rw kth-voltage (input-range (d .adc .gain) (d .adc .offset) reading reads byte (sound-gain d (read .sound)))
+        rw kth-voltage (registers-range (d .adc) (read .bytes) (inputAt x n k) small byte (sound-gain d (read .sound)))
 
 -- ---- two accepted readings whose bytes differ at shorted inputs alone show the same
 abbrev pub SameAt : List ℕ → List ℕ → ℕ → Type 0

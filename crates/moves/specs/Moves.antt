@@ -31,7 +31,7 @@ moves x cc =
     move (eqb x 15 && sixth) 13 14 ∷
     []
 
--- no move reads past the end of the cells, where it would find none
+-- one cell over another; `none` is what would stand past the end of the cells
 abbrev pub movedIf : {A : Type 0} → A → Bool → ℕ → ℕ → List A → List A
 movedIf none true to from cells = set cells to (getD cells from none)
 movedIf none false to from cells = cells
