@@ -27,11 +27,30 @@ five (negsuc k) =
 
 -- ---- what a product of gain and reading, at most `most`, and an offset so many times come to
 module _ {up : ℕ} (most times : ℕ) (offset : ℤ) (few : up ≤ most) (byte : mag offset < 128) where
-  uv-between : Between (128 * times) (most + 127 * times) (pos up +ℤ offset *ℤ pos times)
-  uv-between = of-sum most (128 * times) (127 * times) (offset *ℤ pos times) few (of-product 128 127 times offset (of-byte offset byte))
+  abbrev low : ℕ
+  low = 128 * times
 
-  mv-between : Between (128 * times / 1000) ((most + 127 * times) / 1000) ((pos up +ℤ offset *ℤ pos times) ÷ 1000)
-  mv-between = of-quotient (128 * times) (most + 127 * times) 1000 (pos up +ℤ offset *ℤ pos times) (lit< tt) uv-between
+  abbrev high : ℕ
+  high = most + 127 * times
+
+  abbrev uv : ℤ
+  uv = pos up +ℤ offset *ℤ pos times
+
+  uv-between : Between low high uv
+  uv-between = of-sum most low (127 * times) (offset *ℤ pos times) few (of-product 128 127 times offset (of-byte offset byte))
+
+  mv-between : Between (low / 1000) (high / 1000) (uv ÷ 1000)
+  mv-between = of-quotient low high 1000 uv (lit< tt) uv-between
+
+  uv-held : low ≤ 2147483648 → high < 2147483648 → mag uv < 2 ^ 31
+  uv-held l h = held low high uv l h uv-between
+
+  mv-held : low / 1000 ≤ 2147483648 → high / 1000 < 2147483648 → mag (uv ÷ 1000) < 2 ^ 31
+  mv-held l h = held (low / 1000) (high / 1000) (uv ÷ 1000) l h mv-between
+
+-- ---- of what the crate divides: its `i32` holds it, in both builds, and the u32 that comes of it is, in two's complement, so many mV
+abbrev pub CrateGives : ℤ → ℤ → Type 0
+CrateGives uv mv = (mag uv < 2 ^ 31) × (asI32 (crateMillivolts uv) ≡ mv)
 
 module _ (gain : ℕ) (offset : ℤ) (reading : ℕ) (reads : reading < 65536) (byte : mag offset < 128) where
   pack-uv : cratePackUv gain offset reading ≡ pos (4 * gain * reading) +ℤ offset *ℤ pos 5000
@@ -42,14 +61,14 @@ module _ (gain : ℕ) (offset : ℤ) (reading : ℕ) (reads : reading < 65536) (
     pub crate-input : asI32 (crateMillivolts (crateUv gain offset reading)) ≡ millivolts gain offset reading
     crate-input =
         let few : reading * gain ≤ 65535 * 65535 = product≤ 65535 65535 (omega arith) (omega arith) in
-        i32-of-u32 (millivolts gain offset reading) (held 128 4294963 (millivolts gain offset reading) (lit≤ tt) (lit< tt) (mv-between (65535 * 65535) 1000 offset few byte))
+        i32-of-u32 (millivolts gain offset reading) (mv-held (65535 * 65535) 1000 offset few byte (lit≤ tt) (lit< tt))
 
     pub crate-pack : asI32 (crateMillivolts (cratePackUv gain offset reading)) ≡ packMillivolts 5 gain offset reading
     crate-pack =
         let few : 4 * gain * reading ≤ 4 * 65535 * 65535 = product≤ (4 * 65535) 65535 (omega arith) (omega arith) in
         ap (λ (z : ℤ). asI32 (crateMillivolts z)) pack-uv
         ∙ i32-of-u32 (packMillivolts 5 gain offset reading)
-        (held 640 17179979 (packMillivolts 5 gain offset reading) (lit≤ tt) (lit< tt) (mv-between (4 * 65535 * 65535) 5000 offset few byte))
+        (mv-held (4 * 65535 * 65535) 5000 offset few byte (lit≤ tt) (lit< tt))
 
   -- ---- of a device's gain, 365 to 396, or of none
   module _ (device : gain ≤ 396) where
@@ -65,12 +84,9 @@ module _ (gain : ℕ) (offset : ℤ) (reading : ℕ) (reads : reading < 65536) (
     pub pack-range : (negℤ (pos 640) ≤ℤ packMillivolts 5 gain offset reading) × (packMillivolts 5 gain offset reading ≤ℤ pos 104442)
     pack-range = in-order 640 104442 (packMillivolts 5 gain offset reading) (mv-between (4 * 396 * 65535) 5000 offset pack-few byte)
 
-    -- so that the crate's own `i32` holds what it divides, in both builds of it
-    pub input-held : mag (crateUv gain offset reading) < 2 ^ 31
-    input-held = held (128 * 1000) (65535 * 396 + 127 * 1000) (crateUv gain offset reading) (lit≤ tt) (lit< tt) (uv-between (65535 * 396) 1000 offset input-few byte)
+    pub input-crate : CrateGives (crateUv gain offset reading) (millivolts gain offset reading)
+    input-crate = (uv-held (65535 * 396) 1000 offset input-few byte (lit≤ tt) (lit< tt), crate-input (omega arith))
 
-    pub pack-held : mag (cratePackUv gain offset reading) < 2 ^ 31
-    pack-held =
-        rw pack-uv
-        (held (128 * 5000) (4 * 396 * 65535 + 127 * 5000) (pos (4 * gain * reading) +ℤ offset *ℤ pos 5000) (lit≤ tt) (lit< tt)
-        (uv-between (4 * 396 * 65535) 5000 offset pack-few byte))
+    pub pack-crate : CrateGives (cratePackUv gain offset reading) (packMillivolts 5 gain offset reading)
+    pack-crate =
+        (rw pack-uv (uv-held (4 * 396 * 65535) 5000 offset pack-few byte (lit≤ tt) (lit< tt)), crate-pack (omega arith))

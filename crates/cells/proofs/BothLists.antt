@@ -15,6 +15,7 @@ use borrow.Author.Tests.{eq-eqb}
 use Rattle.laws.proofs.Tests.{both-left, both-right, agree, agreeing}
 use Rattle.refusals.specs.Refusal.{value}
 use Rattle.refusals.proofs.Values.{same-value}
+use Rattle.adc.proofs.Crate.{CrateGives}
 use Rattle.sizes.specs.Sizes.{isCount}
 use Rattle.wiring.specs.Tables.{fitted}
 use Rattle.wiring.proofs.Packs.{of-pack}
@@ -33,7 +34,7 @@ use Rattle.procedure.specs.Cells.{Filled, filled, taking, untouched, volts, fir
 use Rattle.procedure.specs.Cells.{readCells, cellVoltages}
 use Rattle.procedure.specs.Wired.{ofRegisters, ofInput, voltages}
 use Rattle.cells.specs.declared.Cells.{Cells}
-use Rattle.cells.proofs.ByRegisters.{of-input, registers-range, kth-listed, ByRegisters}
+use Rattle.cells.proofs.ByRegisters.{of-input, crateUvOf, registers-crate, registers-range, kth-listed, ByRegisters}
 use Rattle.moves.proofs.CrateList.{at, at-input, shows}
 use Rattle.laws.proofs.Lists.{map-same, map-take}
 use Rattle.procedure.proofs.Converted.{length-converted}
@@ -196,10 +197,14 @@ module _ {d : BQ769x0} {b : Bus} {list list′ : List ℤ} (read : ByCrate d b l
       ap (λ (l : List ℤ). getD l k (pos 0)) (read .volts)
       ∙ kth-listed (ofRegisters (d .adc) (read .bytes)) (inputsOf (d .link .x) (d .«cell_count»)) list k h
 
-  pub kth-cell-range : ((i : ℕ) → getD (read .bytes) i 0 < 256) → mag (d .adc .offset) < 128
-      → (negℤ (pos 128) ≤ℤ getD list′ k (pos 0)) × (getD list′ k (pos 0) ≤ℤ pos 26078)
-  kth-cell-range small byte =
-      rw kth-cell (registers-range (d .adc) (read .bytes) input small byte (sound-gain d (read .sound)))
+  module _ (small : (i : ℕ) → getD (read .bytes) i 0 < 256) (byte : mag (d .adc .offset) < 128) where
+    pub kth-cell-crate : CrateGives (crateUvOf (d .adc) (read .bytes) input) (getD list′ k (pos 0))
+    kth-cell-crate =
+        rw kth-cell (registers-crate (d .adc) (read .bytes) input small byte (sound-gain d (read .sound)))
+
+    pub kth-cell-range : (negℤ (pos 128) ≤ℤ getD list′ k (pos 0)) × (getD list′ k (pos 0) ≤ℤ pos 26078)
+    kth-cell-range =
+        rw kth-cell (registers-range (d .adc) (read .bytes) input small byte (sound-gain d (read .sound)))
 
 -- ---- on those packs the two calls leave the same list
 pub both-alike : {d : BQ769x0} {b : Bus} {list : List ℤ} {inputs inputs″ : List ℕ} {list′ list″ : List ℤ}

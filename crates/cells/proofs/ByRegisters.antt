@@ -9,11 +9,11 @@ use native.Mathlib.Omega.{arith}
 use lib.IntN.{ℤ, pos, negℤ}
 use lib.ListN.{length, getD, length-map, List·getD-append, List·getD-map}
 use lib.Signed.{mag, _≤ℤ_}
-use Rattle.numbers.specs.Numbers.{word, asI32}
+use Rattle.numbers.specs.Numbers.{word}
 use Rattle.refusals.specs.Refusal.{value}
 use Rattle.adc.specs.Conversion.{millivolts}
-use Rattle.adc.specs.Crate.{crateUv, crateMillivolts}
-use Rattle.adc.proofs.Crate.{crate-input, input-range}
+use Rattle.adc.specs.Crate.{crateUv}
+use Rattle.adc.proofs.Crate.{CrateGives, input-crate, input-range}
 use Rattle.adc.specs.declared.transfer.AdcTransferFunction.{AdcTransferFunction}
 use Rattle.wiring.specs.Tables.{fitted}
 use Rattle.wiring.specs.Blocks.{shorted}
@@ -52,20 +52,24 @@ of-input adc bytes x input size low high =
     ∙ converted-at adc bytes i there
     ∙ ap (millivolts (adc .gain) (adc .offset)) words
 
--- ---- where these hold bytes, on a device: the crate's u32, read in two's complement, and what an input can have
+-- ---- what the crate divides for them
+abbrev reading : List ℕ → ℕ → ℕ
+reading bytes input = word (byteOf bytes (highOf input)) (byteOf bytes (highOf input + 1))
+
+abbrev pub crateUvOf : AdcTransferFunction → List ℕ → ℕ → ℤ
+crateUvOf adc bytes input = crateUv (adc .gain) (adc .offset) (reading bytes input)
+
+-- ---- where they hold bytes, on a device: the voltage is what the crate gives, and what an input can have
 module _ (adc : AdcTransferFunction) (bytes : List ℕ) (input : ℕ)
     (small : (i : ℕ) → getD bytes i 0 < 256) (byte : mag (adc .offset) < 128) (device : adc .gain ≤ 396) where
-  abbrev reading : ℕ
-  reading = word (byteOf bytes (highOf input)) (byteOf bytes (highOf input + 1))
-
-  reads : reading < 65536
+  reads : reading bytes input < 65536
   reads = omega (arith, small (highOf input - 0x0C), small (highOf input + 1 - 0x0C))
 
-  pub registers-crate : asI32 (crateMillivolts (crateUv (adc .gain) (adc .offset) reading)) ≡ ofRegisters adc bytes input
-  registers-crate = crate-input (adc .gain) (adc .offset) reading reads byte (omega arith)
+  pub registers-crate : CrateGives (crateUvOf adc bytes input) (ofRegisters adc bytes input)
+  registers-crate = input-crate (adc .gain) (adc .offset) (reading bytes input) reads byte device
 
   pub registers-range : (negℤ (pos 128) ≤ℤ ofRegisters adc bytes input) × (ofRegisters adc bytes input ≤ℤ pos 26078)
-  registers-range = input-range (adc .gain) (adc .offset) reading reads byte device
+  registers-range = input-range (adc .gain) (adc .offset) (reading bytes input) reads byte device
 
 -- ---- the place of an input in a list of voltages over another
 pub kth-listed : (f : ℕ → ℤ) (inputs : List ℕ) (list : List ℤ) (k : ℕ) → k < length inputs
@@ -133,12 +137,9 @@ module _ {d : BQ769x0} {b : Bus} {inputs inputs′ : List ℕ} {list list′ : L
       ∙ kth-listed (ofRegisters (d .adc) (read .bytes)) (fitted x n) list k more
 
   module _ (small : (i : ℕ) → getD (read .bytes) i 0 < 256) (byte : mag (d .adc .offset) < 128) where
-    pub kth-crate :
-        asI32 (crateMillivolts (crateUv (d .adc .gain) (d .adc .offset)
-        (word (byteOf (read .bytes) (highOf (inputAt x n k))) (byteOf (read .bytes) (highOf (inputAt x n k) + 1)))))
-        ≡ getD list′ k (pos 0)
+    pub kth-crate : CrateGives (crateUvOf (d .adc) (read .bytes) (inputAt x n k)) (getD list′ k (pos 0))
     kth-crate =
-        registers-crate (d .adc) (read .bytes) (inputAt x n k) small byte (sound-gain d (read .sound)) ∙ sym kth-voltage
+        rw kth-voltage (registers-crate (d .adc) (read .bytes) (inputAt x n k) small byte (sound-gain d (read .sound)))
 
     pub kth-range : (negℤ (pos 128) ≤ℤ getD list′ k (pos 0)) × (getD list′ k (pos 0) ≤ℤ pos 26078)
     kth-range =

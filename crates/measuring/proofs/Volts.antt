@@ -1,19 +1,17 @@
--- The pack's voltage that an accepted call answers is that of the word it read from 2A. By what registers can hold it is the crate's u32, read in
--- two's complement, and from -640 to 104442 mV.
+-- The pack's voltage that an accepted call answers is that of the word it read from 2A. By what registers can hold it is what the crate gives,
+-- read in two's complement, and from -640 to 104442 mV.
 -- Assumes nothing.
 use mathlib.Core.Path.{_≡_, refl, sym, ap, _∙_}
 use mathlib.Core.Bool.{Bool, true, false}
 use mathlib.Core.List.{List}
 use Prim.Native.Nat.{ℕ, _<_}
-use native.Mathlib.Omega.{arith}
 use lib.IntN.{ℤ, pos, negℤ}
 use lib.Signed.{mag, _≤ℤ_}
-use Rattle.numbers.specs.Numbers.{asI32}
 use Rattle.refusals.specs.Refusal.{Answer, value, refused, nine}
 use Rattle.refusals.proofs.Values.{same-value, refused-not}
 use Rattle.adc.specs.Conversion.{packMillivolts}
-use Rattle.adc.specs.Crate.{cratePackUv, crateMillivolts}
-use Rattle.adc.proofs.Crate.{crate-pack, pack-range}
+use Rattle.adc.specs.Crate.{cratePackUv}
+use Rattle.adc.proofs.Crate.{CrateGives, pack-crate, pack-range}
 use Rattle.units.specs.declared.MilliVolts.{MilliVolts}
 use Rattle.bus.specs.Transfers.{Bus}
 use Rattle.bus.specs.Programs.{Ran, ran, onTape}
@@ -67,10 +65,10 @@ by-word d b r log v promise done =
 -- two bytes were read, and the offset is an `i8`
 module _ {d : BQ769x0} {b : Bus} {mv : ℤ} (read : ByWord d b mv)
     (reads : read .reading < 65536) (byte : mag (d .adc .offset) < 128) where
-  pub volts-crate : asI32 (crateMillivolts (cratePackUv (d .adc .gain) (d .adc .offset) (read .reading))) ≡ mv
+  pub volts-crate : CrateGives (cratePackUv (d .adc .gain) (d .adc .offset) (read .reading)) mv
   volts-crate =
-      crate-pack (d .adc .gain) (d .adc .offset) (read .reading) reads byte (omega (arith, sound-gain d (read .sound)))
-      ∙ sym (read .volts)
+      rw (read .volts)
+      (pack-crate (d .adc .gain) (d .adc .offset) (read .reading) reads byte (sound-gain d (read .sound)))
 
   pub volts-range : (negℤ (pos 640) ≤ℤ mv) × (mv ≤ℤ pos 104442)
   volts-range =
