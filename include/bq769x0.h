@@ -1,6 +1,6 @@
 /*
  * A driver for the battery monitors BQ76920, BQ76930 and BQ76940 that is proved: setting one up by a job, alone or with a
- * reading of its cells after it; and which cell of a pack sits on an input.
+ * reading of its cells after it; which cell of a pack sits on an input; and the seconds that a delay's code in a job stands for.
  *
  * All functions work on bytes in memory and touch nothing else: they read what the bus answered from a tape and write what they
  * sent into a log. Every number in a buffer stands with its high byte first. Millivolts are signed, in two's complement, and bq769x0_i32
@@ -36,7 +36,7 @@ extern "C" {
 #endif
 
 /* Counts up where a function, a layout or a number of this header changes; and the Rust crate whose answers these are. */
-#define BQ769X0_VERSION 2
+#define BQ769X0_VERSION 3
 #define BQ769X0_CRATE "0.3.1"
 
 /*
@@ -83,7 +83,7 @@ static inline int32_t bq769x0_i32(const uint8_t *at) {
 
 static inline int32_t bq769x0_millivolts(const uint8_t *list, size_t cell) { return bq769x0_i32(list + 4 * cell); }
 
-/* What the functions return. A refusal leaves list, inputs and cell as they were, and in log every transfer that was made, the one that
+/* What the functions return. A refusal leaves list, inputs, cell and seconds as they were, and in log every transfer that was made, the one that
  * faulted or showed the error included. */
 enum bq769x0_refusal {
     BQ769X0_OK = 0,
@@ -101,7 +101,7 @@ enum bq769x0_refusal {
     BQ769X0_BAD_SHUNT = 12,           /* 0, or over 2147483647 microohms */
     BQ769X0_CURRENT_TOO_LARGE = 13,   /* a current times the shunt is 256000 or more */
     BQ769X0_REGISTER_RUNS_OUT = 14,   /* a transfer would pass register FF */
-    BQ769X0_BAD_TAPE = 15,            /* the job is no job, or the tape has no field that fits the transfer */
+    BQ769X0_BAD_TAPE = 15,            /* the job is no job, the tape has no field that fits the transfer, or a delay's code is over 3 */
     BQ769X0_TAPE_ENDED = 16,          /* no field left for a transfer */
     BQ769X0_LOG_FULL = 17,            /* no room for the transfer's field */
     BQ769X0_UNKNOWN_FLAGS = 18,       /* a status reset with bit 6 */
@@ -153,6 +153,14 @@ uint8_t bq769x0_init_wired(const uint8_t *job, size_t job_len, const uint8_t *ta
 /* The cell, from 1, bottom of the pack first, that sits on an input of a device with X inputs (5, 10 or 15) and so many cells:
  * BQ769X0_BAD_DEVICE, BQ769X0_BAD_CELL_COUNT, BQ769X0_NO_SUCH_INPUT. */
 uint8_t bq769x0_cell_on(uint8_t x, uint8_t cells, uint8_t input, uint8_t cell[1]);
+
+/* The seconds for which an undervoltage, or an overvoltage, stands before the chip acts on it, by the delay's code as a job has it:
+ *   code                 0   1   2   3
+ *   bq769x0_uv_seconds   1   4   8  16
+ *   bq769x0_ov_seconds   1   2   4   8
+ * A code over 3 is BQ769X0_BAD_TAPE, as in a job. The Rust crate names the OV delays as the UV ones; the chip waits as long as stands here. */
+uint8_t bq769x0_uv_seconds(uint8_t code, uint8_t seconds[1]);
+uint8_t bq769x0_ov_seconds(uint8_t code, uint8_t seconds[1]);
 
 /* As bq769x0_init_wired, with the list of the Rust crate bq769x0 0.3.1, without the inputs; list_len is in bytes, four a cell. On a
  * BQ76920, and on a BQ76940 of 14 or 15 cells, that list shows the inputs of the datasheet's wiring. On a BQ76930 of any count, and on

@@ -90,7 +90,7 @@ where
             0x21 => return self.init(value),
             0x22 => return self.cells(&mut lent.list),
             0x23 => return self.current(),
-            0x24 => device.voltage(bus).map(|found| format!("voltage {}", signed(found))),
+            0x24 => return self.voltage(),
             0x25 => device.temperature(bus).map(degrees),
             0x26 => device.enable_balancing(bus, value[0]).map(done),
             0x27 => device.balancing_state(bus).map(|set| format!("balancing {set}")),
@@ -171,6 +171,19 @@ where
         device.cell_voltages(&mut bus).map_err(number).expect("a reading").iter().map(|cell| signed(*cell)).collect()
     }
 
+    /// The read, its refusals and the voltage with five offsets are the crate's; with an offset a cell it is computed, from the same reply.
+    fn voltage(&mut self) -> Result<String, String> {
+        let field = self.bus.at;
+        let found = signed(self.device.voltage(self.bus).map_err(number)?);
+        let reply: Vec<u8> = self.bus.tape[field + 3..self.bus.at].iter().step_by(1 + self.job.check as usize).copied().collect();
+        let reading = u16::from_be_bytes([reply[0], reply[1]]);
+        let by = |offsets: u8| pack_by_count(offsets, self.device.adc_gain(), self.device.adc_offset(), reading);
+        if by(5) != found {
+            return Ok(format!("voltage {found} by the crate, {} by its formula", by(5)));
+        }
+        Ok(format!("voltage {}", by(self.job.cells)))
+    }
+
     /// 4 in front.
     fn current(&mut self) -> Result<String, String> {
         if !self.device.is_initialized() {
@@ -180,10 +193,17 @@ where
     }
 }
 
-/// The crate's millivolts with their sign: the one place where the port's answer moves away from the crate's (request 2; docs/DIFFERENCES.md, D57).
+/// The crate's millivolts with their sign: the one place where a voltage's form moves away from the crate's (request 2; docs/DIFFERENCES.md, D57).
 /// The bits are the crate's. All that is printed or compared of its voltages comes through here.
 pub fn signed(voltage: MilliVolts) -> i32 {
     voltage.0 as i32
+}
+
+/// The pack voltage with so many offsets: the one place where the port's number moves away from the crate's (request 3; docs/DIFFERENCES.md, D54).
+/// The datasheet has one a fitted cell, and so the port takes the record's count; the crate takes five, whatever the count. With five this must be
+/// the crate's own number, which `voltage` holds it to on every job.
+fn pack_by_count(offsets: u8, gain: u16, offset: i8, reading: u16) -> i32 {
+    (4 * gain as i32 * reading as i32 + offsets as i32 * offset as i32 * 1000) / 1000
 }
 
 pub fn set_up(found: &CalculatedValues) -> String {

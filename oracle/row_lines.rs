@@ -157,6 +157,13 @@ fn current(check: bool, counter: u16, shunt: u32) -> String {
     bench.current()
 }
 
+/// The voltage of a BQ76920's pack of so many cells, by the crate's own call: reading 0, offset 1.
+fn pack(check: bool, cell_count: u8) -> i32 {
+    let mut bench = Bench::<5>::new(check, cell_count, &[(0x51, 0x01)]);
+    bench.init(EXAMPLE).expect("set up");
+    signed(bench.run(|device, bus| device.voltage(bus).map_err(number).expect("a voltage")))
+}
+
 /// The cells of a BQ76930, of which input k reads 1000 k.
 fn cells(check: bool, inputs: &[u32]) -> Vec<Line> {
     let reading = |k: u16| (1000 * (k + 1)).to_be_bytes();
@@ -207,10 +214,16 @@ fn functions(check: bool) -> Vec<Line> {
         line("D38 reading 0, gain 365, offset -1: mV", NotRun("AdcTransferFunction is private; by a cell this is `reading 0, same`"), -1),
         line("D39 CC_READY and OVERCURRENT in one set", NotRun("an operator of bitflags, which the stand-in does not have"), 0x81),
         row("D39 the set of bit 6", SysStat::from_bits(0x40).map_or("None".to_string(), |set| set.bits().to_string()), 0x40),
+        row("D54 pack of 3 cells, reading 0, offset 1: mV (5 before)", pack(check, 3), 3),
+        row("D54 the same of 5 cells: mV", pack(check, 5), 5),
         row("D53 OV delay of 1 s: bits", OVDelay::_1s.bits(), 0x00),
-        row("D53 OV delay of 4 s: bits", OVDelay::_4s.bits(), 0x10),
-        row("D53 OV delay of 8 s: bits", OVDelay::_8s.bits(), 0x20),
-        row("D53 OV delay of 16 s: bits", OVDelay::_16s.bits(), 0x30),
+        line("D53 OV delay of 2 s: bits", NotRun("it has no OV delay of that name; code 1 is named 4 s"), 0x10),
+        row("D53 OV delay of 4 s: bits (16 before)", OVDelay::_4s.bits(), 0x20),
+        row("D53 OV delay of 8 s: bits (32 before)", OVDelay::_8s.bits(), 0x30),
+        line("D53 OV delay of code 1: s (4 before)", NotRun("it names its delays, and answers no seconds"), 2),
+        line("D79 OV delay of code 3: s", NotRun("the same"), 8),
+        line("D79 UV delay of code 3: s", NotRun("the same"), 16),
+        line("D79 UV delay of code 4: refused", NotRun("the same"), 15),
     ]
 }
 

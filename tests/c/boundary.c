@@ -294,6 +294,28 @@ static void cells_on(void) {
                 on_input(&c, x, cells, input);
 }
 
+/* ---- the seconds of a delay's code, as the datasheet prints them */
+typedef uint8_t question(uint8_t code, uint8_t seconds[1]);
+
+/* All 256 codes: the first four have their seconds, the others 15 and the byte as it was. */
+static void every_code(const char *name, question *asked, const uint8_t seconds[4]) {
+    struct call c = example(name, NONE);
+    for (int code = 0; code <= UINT8_MAX; code++) {
+        struct lent lent, before;
+        lend(&before, NULL, 1);
+        lent = before;
+        must(asked((uint8_t)code, at(&lent)) == (code < 4 ? BQ769X0_OK : BQ769X0_BAD_TAPE), &c, "the number");
+        same(&c, "seconds", &lent, &before, seconds + code % 4, code < 4);
+        run++;
+    }
+}
+
+static void seconds_of_codes(void) {
+    static const uint8_t uv[4] = {1, 4, 8, 16}, ov[4] = {1, 2, 4, 8};
+    every_code("the seconds of a UV delay", bq769x0_uv_seconds, uv);
+    every_code("the seconds of an OV delay", bq769x0_ov_seconds, ov);
+}
+
 /* A refusal's figures: OV and UV out of reach above, at 0 and below zero, and 08 that reads back otherwise. */
 static void figures(void) {
     static const int32_t asked[] = {5000, INT32_MAX, 0, -1, INT32_MIN};
@@ -373,6 +395,7 @@ int main(void) {
     seven_cells();
     figures();
     cells_on();
+    seconds_of_codes();
     printf("c: %lu calls as they should be\n", run);
     return 0;
 }

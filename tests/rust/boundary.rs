@@ -16,6 +16,8 @@ mod bq769x0 {
                 inputs: *mut u8, inputs_len: usize, list: *mut u8, list_len: usize, out: *mut u8,
             ) -> u8;
             pub fn bq769x0_cell_on(x: u8, cells: u8, input: u8, cell: *mut u8) -> u8;
+            pub fn bq769x0_uv_seconds(code: u8, seconds: *mut u8) -> u8;
+            pub fn bq769x0_ov_seconds(code: u8, seconds: *mut u8) -> u8;
         }
     }
 
@@ -46,6 +48,14 @@ mod bq769x0 {
 
     pub fn cell_on(x: u8, cells: u8, input: u8, cell: &mut [u8; 1]) -> u8 {
         unsafe { linked::bq769x0_cell_on(x, cells, input, cell.as_mut_ptr()) }
+    }
+
+    pub fn uv_seconds(code: u8, seconds: &mut [u8; 1]) -> u8 {
+        unsafe { linked::bq769x0_uv_seconds(code, seconds.as_mut_ptr()) }
+    }
+
+    pub fn ov_seconds(code: u8, seconds: &mut [u8; 1]) -> u8 {
+        unsafe { linked::bq769x0_ov_seconds(code, seconds.as_mut_ptr()) }
     }
 
     /// The millivolts of a list's first cells, with their signs.
@@ -220,7 +230,21 @@ fn cells_on() -> u32 {
     seven.chain(refused).map(check).sum()
 }
 
+/// Every code of either delay: its seconds, or 15 past the list.
+fn seconds() -> u32 {
+    let check = |name: &str, asked: fn(u8, &mut [u8; 1]) -> u8, list: [u8; 4]| {
+        for code in 0..=u8::MAX {
+            let mut lent = [FILL];
+            let should = list.get(code as usize).map_or((15, [FILL]), |seconds| (0, [*seconds]));
+            assert_eq!((asked(code, &mut lent), lent), should, "seconds of the {name} delay {code}");
+        }
+        256
+    };
+    check("UV", bq769x0::uv_seconds, [1, 4, 8, 16]) + check("OV", bq769x0::ov_seconds, [1, 2, 4, 8])
+}
+
 fn main() {
-    let run = every(None) + every(Cells) + every(Wired) + short_lists() + four_cells() + below_zero(Cells) + below_zero(Wired) + cells_on();
+    let readings = every(None) + every(Cells) + every(Wired) + short_lists() + four_cells() + below_zero(Cells) + below_zero(Wired);
+    let run = readings + cells_on() + seconds();
     println!("rust: {run} calls as they should be");
 }

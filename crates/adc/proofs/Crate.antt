@@ -1,6 +1,7 @@
--- The tie to the crate's numbers: its u32, read in two's complement, is the voltage of the definitions, on every reading, gain and offset.
--- With a device's gain no number on the crate's way to it leaves an `i32`, and the voltage is from -128 to 26078 mV for an input, from -640 to
--- 104442 mV for the pack.
+-- The tie to the crate's numbers: its u32, read in two's complement, is the voltage of the definitions, on every reading, gain and offset: of an
+-- input, and of a pack of five cells, since the crate takes five offsets whatever the count.
+-- With a device's gain no number on the crate's way to it leaves an `i32`, and the voltage is from -128 to 26078 mV for an input, from -1920 to
+-- 105712 mV for a pack of up to 15 cells.
 -- Assumes nothing.
 use mathlib.Core.Path.{_≡_, ap, _∙_}
 use Prim.Native.Nat.{ℕ, suc, _+_, _*_, _/_, _^_, _≤_, _<_}
@@ -9,13 +10,13 @@ use lib.IntN.{ℤ, pos, negsuc, negℤ, _+ℤ_, _*ℤ_}
 use lib.Dec.{lit≤, lit<}
 use lib.Signed.{mag, _≤ℤ_}
 use Rattle.numbers.specs.Numbers.{_÷_, asI32}
-use Rattle.numbers.proofs.Between.{Between, of-sum, of-product, of-quotient, of-byte, in-order, held}
+use Rattle.numbers.proofs.Between.{Between, of-sum, of-product, of-quotient, of-byte, wider, in-order, held}
 use Rattle.numbers.proofs.Casts.{i32-of-u32}
 use Rattle.numbers.proofs.Signed.{product≤}
 use Rattle.adc.specs.Conversion.{millivolts, packMillivolts}
 use Rattle.adc.specs.Crate.{crateUv, cratePackUv, crateMillivolts}
 
--- the pack's five offsets, in the crate's words and in one product
+-- the crate's five offsets, in the crate's words and in one product
 five : (offset : ℤ) → pos 5 *ℤ offset *ℤ pos 1000 ≡ offset *ℤ pos 5000
 five (pos k) =
     let e : 5 * k * 1000 ≡ k * 5000 = omega arith in
@@ -81,8 +82,13 @@ module _ (gain : ℕ) (offset : ℤ) (reading : ℕ) (reads : reading < 65536) (
     pub input-range : (negℤ (pos 128) ≤ℤ millivolts gain offset reading) × (millivolts gain offset reading ≤ℤ pos 26078)
     input-range = in-order 128 26078 (millivolts gain offset reading) (mv-between (65535 * 396) 1000 offset input-few byte)
 
-    pub pack-range : (negℤ (pos 640) ≤ℤ packMillivolts 5 gain offset reading) × (packMillivolts 5 gain offset reading ≤ℤ pos 104442)
-    pack-range = in-order 640 104442 (packMillivolts 5 gain offset reading) (mv-between (4 * 396 * 65535) 5000 offset pack-few byte)
+    pub pack-range : (cells : ℕ) → cells ≤ 15
+        → (negℤ (pos 1920) ≤ℤ packMillivolts cells gain offset reading) × (packMillivolts cells gain offset reading ≤ℤ pos 105712)
+    pack-range cells most =
+        let mv = packMillivolts cells gain offset reading in
+        in-order 1920 105712 mv
+        (wider 1920 105712 mv (omega arith) (omega arith)
+        (mv-between (4 * 396 * 65535) (cells * 1000) offset pack-few byte))
 
     pub input-crate : CrateGives (crateUv gain offset reading) (millivolts gain offset reading)
     input-crate = (uv-held (65535 * 396) 1000 offset input-few byte (lit≤ tt) (lit< tt), crate-input (omega arith))

@@ -13,9 +13,9 @@ use Rattle.adc.specs.declared.counter.CurrentAnswer.the-variants.{Flows,
 abbrev pub millivolts : ℕ → ℤ → ℕ → ℤ
 millivolts gain offset reading = (pos (reading * gain) +ℤ offset *ℤ pos 1000) ÷ 1000
 
--- the pack: four times gain and reading, and the offset as many times as is said
+-- the pack: four times gain and reading, and the offset once per fitted cell
 abbrev pub packMillivolts : ℕ → ℕ → ℤ → ℕ → ℤ
-packMillivolts offsets gain offset reading = (pos (4 * gain * reading) +ℤ offset *ℤ pos (offsets * 1000)) ÷ 1000
+packMillivolts cells gain offset reading = (pos (4 * gain * reading) +ℤ offset *ℤ pos (cells * 1000)) ÷ 1000
 
 -- the coulomb counter: 8440 nV a count, over the shunt in µΩ, which is refused at 0 and over 2,147,483,647
 abbrev pub milliamperes : ℤ → ℕ → Answer ℤ

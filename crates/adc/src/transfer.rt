@@ -44,15 +44,15 @@ impl AdcTransferFunction {
         MilliVolts(per_thousand(adc_reading as u64 * self.gain as u64, offset, 1000))
     }
 
-    // The pack's voltage, with the offset taken `offsets` times.
-    pub fn pack_voltage(self, offsets: u8, adc_reading: u16) -> MilliVolts
-        ensures { λ r. ⌜ r .0 ≡ packMillivolts offsets (self .gain) (self .offset) «adc_reading» ⌝ }
+    // The pack's voltage, with the offset taken once per fitted cell.
+    pub fn pack_voltage(self, cells: u8, adc_reading: u16) -> MilliVolts
+        ensures { λ r. ⌜ r .0 ≡ packMillivolts cells (self .gain) (self .offset) «adc_reading» ⌝ }
     {
         let offset = self.offset;
         MilliVolts(per_thousand(
             4 * self.gain as u64 * adc_reading as u64,
             offset,
-            offsets as u32 * 1000,
+            cells as u32 * 1000,
         ))
     }
 

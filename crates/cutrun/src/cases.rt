@@ -23,7 +23,7 @@ fn with(shunt: u32, scd: u32, ocd: u32, uv: i32, ov: i32) -> Config {
         ocd_threshold: Amperes(ocd),
         uv_delay: UVDelay::_4s,
         uv_threshold: MilliVolts(uv),
-        ov_delay: OVDelay::_4s,
+        ov_delay: OVDelay::_2s,
         ov_threshold: MilliVolts(ov),
     }
 }
@@ -42,7 +42,7 @@ pub(crate) fn upper() -> Config {
         ocd_threshold: Amperes(30),
         uv_delay: UVDelay::_16s,
         uv_threshold: MilliVolts(2500),
-        ov_delay: OVDelay::_8s,
+        ov_delay: OVDelay::_4s,
         ov_threshold: MilliVolts(3650),
     }
 }

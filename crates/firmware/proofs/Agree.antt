@@ -13,7 +13,7 @@ use Rattle.plan.proofs.Agree.{answer-agree}
 use Rattle.firmware.specs.Handed.{Handed, handed}
 use Rattle.firmware.specs.JobCells.{Listed, listed, HandedList}
 use Rattle.firmware.specs.JobWired.{Beside, beside, HandedBoth, handedBoth}
-use Rattle.firmware.specs.CellOn.{Found, found}
+use Rattle.firmware.specs.Found.{Found, found}
 
 -- what all return
 left-agree : (r r′ : Init)
@@ -83,11 +83,11 @@ both-agree x h h′ inputs inputs′ list list′ e e′ =
       ap (λ (y : HandedBoth). y .handed .list) same,
     )
 
--- `bq769x0_cell_on`
-pub found-agree : (x : Found) (n n′ : ℕ) (cell cell′ : List ℕ)
-    → found n cell ≡ x → found n′ cell′ ≡ x → (n ≡ n′) × (cell ≡ cell′)
-found-agree x n n′ cell cell′ e e′ =
+-- `bq769x0_cell_on`, `bq769x0_uv_seconds`, `bq769x0_ov_seconds`
+pub found-agree : (x : Found) (n n′ : ℕ) (byte byte′ : List ℕ)
+    → found n byte ≡ x → found n′ byte′ ≡ x → (n ≡ n′) × (byte ≡ byte′)
+found-agree x n n′ byte byte′ e e′ =
     let same = e ∙ sym e′ in (
       ap (λ (y : Found). y .number) same,
-      ap (λ (y : Found). y .cell) same,
+      ap (λ (y : Found). y .byte) same,
     )

@@ -1,4 +1,4 @@
 pub mod Handed
 pub mod JobCells
 pub mod JobWired
-pub mod CellOn
+pub mod Found

@@ -1,4 +1,4 @@
-// Setting up for C: a job, a tape and a log in, a number and 36 bytes out.
+// For C: setting up, by a job, a tape and a log, with a number and 36 bytes out; and three questions that one byte answers.
 ghost use mathlib.Core.Path.{_≡_};
 ghost use Rattle.bus.specs.Transfers.{start};
 ghost use Rattle.bus.specs.Programs.{onTape};
@@ -8,17 +8,22 @@ ghost use Rattle.job_setup.specs.JobInit.{jobInit};
 ghost use Rattle.firmware.specs.Handed.{handed, asC};
 ghost use Rattle.firmware.specs.JobCells.{listed, jobCells, asList};
 ghost use Rattle.firmware.specs.JobWired.{beside, jobWired, handedBoth, asBoth};
-ghost use Rattle.firmware.specs.CellOn.{found, foundFor};
+ghost use Rattle.firmware.specs.Found.{found, foundFor};
+ghost use Rattle.job.specs.Seconds.{secondsFor};
+ghost use Rattle.protection.specs.Delays.{uvTimes, ovTimes};
 ghost use Rattle.wiring.specs.Questions.{cellOn};
+use crate::byte::store_seconds;
 use crate::crate_list::read_cells;
 use crate::wired::read_wired;
 use bq769x0::BQ769x0;
+use job::seconds;
 use layout::lay_out;
 use plan::InitAnswer;
 use setup::left::Init;
 use wiring::questions;
 use wiring::questions::CellAnswer;
 
+mod byte;
 mod crate_list;
 mod list;
 mod wired;
@@ -124,4 +129,20 @@ pub extern "C" fn bq769x0_cell_on(x: u8, cells: u8, input: u8, cell: &mut [u8; 1
         }
         CellAnswer::Refused(e) => e.number(),
     }
+}
+
+// For C: the number, and the seconds that a UV delay's code stands for, which a refusal leaves as they were.
+#[no_mangle]
+pub extern "C" fn bq769x0_uv_seconds(code: u8, seconds: &mut [u8; 1]) -> u8
+    ensures { λ r. ⌜ found r (now (seconds .exit)) ≡ foundFor (secondsFor uvTimes code) (now (seconds .entry)) ⌝ }
+{
+    store_seconds(seconds::uv_seconds(code), seconds)
+}
+
+// For C: the same of an OV delay's code.
+#[no_mangle]
+pub extern "C" fn bq769x0_ov_seconds(code: u8, seconds: &mut [u8; 1]) -> u8
+    ensures { λ r. ⌜ found r (now (seconds .exit)) ≡ foundFor (secondsFor ovTimes code) (now (seconds .entry)) ⌝ }
+{
+    store_seconds(seconds::ov_seconds(code), seconds)
 }

@@ -41,7 +41,7 @@ job = record {
     «scd_delay» = S.«_200uS»;
     «ocd_delay» = O.«_320ms»;
     «uv_delay» = U.«_4s»;
-    «ov_delay» = W.«_4s»;
+    «ov_delay» = W.«_2s»;
   };
 }
 

@@ -22,7 +22,7 @@ abbrev pub uvDelays : List UVDelay
 uvDelays = U.«_1s» ∷ U.«_4s» ∷ U.«_8s» ∷ U.«_16s» ∷ []
 
 abbrev pub ovDelays : List OVDelay
-ovDelays = W.«_1s» ∷ W.«_4s» ∷ W.«_8s» ∷ W.«_16s» ∷ []
+ovDelays = W.«_1s» ∷ W.«_2s» ∷ W.«_4s» ∷ W.«_8s» ∷ []
 
 -- the delay that a code names; asked of codes in the list only
 abbrev pub scdAt : ℕ → SCDDelay

@@ -17,6 +17,8 @@ use units::Amperes;
 use units::MicroOhms;
 use units::MilliVolts;
 
+pub mod seconds;
+
 pub const TAPE_AT: usize = 34;
 
 pub struct Device {
@@ -105,9 +107,9 @@ fn ov_delay(code: u8) -> OVDelay
 {
     match code {
         0 => OVDelay::_1s,
-        1 => OVDelay::_4s,
-        2 => OVDelay::_8s,
-        _ => OVDelay::_16s,
+        1 => OVDelay::_2s,
+        2 => OVDelay::_4s,
+        _ => OVDelay::_8s,
     }
 }
 

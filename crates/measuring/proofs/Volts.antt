@@ -1,5 +1,5 @@
--- The pack's voltage that an accepted call answers is that of the word it read from 2A. By what registers can hold it is what the crate gives,
--- read in two's complement, and from -640 to 104442 mV.
+-- The pack's voltage that an accepted call answers is that of the word it read from 2A, with an offset for each cell of the record's count. By
+-- what registers can hold it is from -1920 to 105712 mV; and where the count is five, what the crate gives, read in two's complement.
 -- Assumes nothing.
 use mathlib.Core.Path.{_≡_, refl, sym, ap, _∙_}
 use mathlib.Core.Bool.{Bool, true, false}
@@ -18,7 +18,7 @@ use Rattle.bus.specs.Programs.{Ran, ran, onTape}
 use Rattle.bus.proofs.Heard.{Heard, heard}
 use Rattle.bq769x0.specs.Record.{isSound}
 use Rattle.bq769x0.specs.declared.BQ769x0.{BQ769x0}
-use Rattle.bq769x0.proofs.Sizes.{sound-gain}
+use Rattle.bq769x0.proofs.Sizes.{sound-sizes, sound-gain}
 use Rattle.bq769x0.proofs.Soundly.{sound-on, sound-off}
 use Rattle.measuring.specs.Word.{readWord}
 use Rattle.measuring.specs.Pack.{asVoltage, voltage}
@@ -29,14 +29,14 @@ pub record ByWord (d : BQ769x0) (b : Bus) (mv : ℤ) : Type 0 where
   pub sound : isSound d ≡ true
   pub reading : ℕ
   pub read : onTape (readWord (d .link) 0x2A) b .answer ≡ value reading
-  pub volts : mv ≡ packMillivolts 5 (d .adc .gain) (d .adc .offset) reading
+  pub volts : mv ≡ packMillivolts (d .«cell_count») (d .adc .gain) (d .adc .offset) reading
 
 module _ (d : BQ769x0) (b : Bus) {mv : ℤ} (e : onTape (voltage d) b .answer ≡ value mv) where
   abbrev read : Ran (Answer ℕ)
   read = onTape (readWord (d .link) 0x2A) b
 
   abbrev made : ℕ → Answer ℤ
-  made reading = value (packMillivolts 5 (d .adc .gain) (d .adc .offset) reading)
+  made reading = value (packMillivolts (d .«cell_count») (d .adc .gain) (d .adc .offset) reading)
 
   by-read : isSound d ≡ true → Heard (onTape (voltage d) b) made (read .answer) (read .bus)
       → (a : Answer ℕ) → read .answer ≡ a → ByWord d b mv
@@ -65,12 +65,13 @@ by-word d b r log v promise done =
 -- two bytes were read, and the offset is an `i8`
 module _ {d : BQ769x0} {b : Bus} {mv : ℤ} (read : ByWord d b mv)
     (reads : read .reading < 65536) (byte : mag (d .adc .offset) < 128) where
-  pub volts-crate : CrateGives (cratePackUv (d .adc .gain) (d .adc .offset) (read .reading)) mv
-  volts-crate =
-      rw (read .volts)
+  pub volts-crate : d .«cell_count» ≡ 5 → CrateGives (cratePackUv (d .adc .gain) (d .adc .offset) (read .reading)) mv
+  volts-crate five =
+      rw (read .volts, five)
       (pack-crate (d .adc .gain) (d .adc .offset) (read .reading) reads byte (sound-gain d (read .sound)))
 
-  pub volts-range : (negℤ (pos 640) ≤ℤ mv) × (mv ≤ℤ pos 104442)
+  pub volts-range : (negℤ (pos 1920) ≤ℤ mv) × (mv ≤ℤ pos 105712)
   volts-range =
       rw (read .volts)
-      (pack-range (d .adc .gain) (d .adc .offset) (read .reading) reads byte (sound-gain d (read .sound)))
+      (pack-range (d .adc .gain) (d .adc .offset) (read .reading) reads byte (sound-gain d (read .sound))
+      (d .«cell_count») (sound-sizes d (read .sound) .1))

@@ -28,8 +28,8 @@ abbrev pub asVoltage : VoltageAnswer → Answer ℤ
 asVoltage (Va.Volts voltage) = value (voltage .0)
 asVoltage (Va.Refused e) = refused (asRefusal e)
 
--- 2A and 2B: with five offsets, whatever the device
+-- 2A and 2B: with an offset for each fitted cell, by the record's count
 unfoldable pub voltage : BQ769x0 → Prog (Answer ℤ)
 voltage d = soundly d (refused nine) (do
   reading ← readWord (d .link) 0x2A orLeave refused
-  ret (value (packMillivolts 5 (d .adc .gain) (d .adc .offset) reading)))
+  ret (value (packMillivolts (d .«cell_count») (d .adc .gain) (d .adc .offset) reading)))

@@ -73,7 +73,7 @@ pub fn voltage(device: BQ769x0, tape: &[u8], log: &mut [u8], at: Cursor) -> Volt
         WordAnswer::Word(vv) => {
             let adc = device.adc;
             VoltageRead {
-                answer: VoltageAnswer::Volts(adc.pack_voltage(5, vv)),
+                answer: VoltageAnswer::Volts(adc.pack_voltage(device.cell_count, vv)),
                 at: next,
             }
         }

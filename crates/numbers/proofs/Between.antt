@@ -49,6 +49,10 @@ pub of-byte : (z : ℤ) → mag z < 128 → Between 128 127 z
 of-byte (pos n) h = omega arith
 of-byte (negsuc n) h = omega arith
 
+pub wider : {low high : ℕ} (least most : ℕ) (z : ℤ) → low ≤ least → high ≤ most → Between low high z → Between least most z
+wider least most (pos n) l h b = le-trans b h
+wider least most (negsuc n) l h b = le-trans b l
+
 -- as an order
 pub in-order : (low high : ℕ) (z : ℤ) → Between low high z → (negℤ (pos low) ≤ℤ z) × (z ≤ℤ pos high)
 in-order zero high (pos n) h = (leZ-yes (le→leb 0 n (omega arith)), leZ-yes (le→leb n high h))

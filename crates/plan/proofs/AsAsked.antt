@@ -9,17 +9,20 @@ use Prim.Native.Nat.{ℕ, _*_, _/_, _≤_, _<_}
 use native.Mathlib.Omega.{arith}
 use lib.Dec.{eqb, leb, ltb}
 use lib.IntN.{ℤ}
+use lib.ListN.{getD}
 use lib.Signed.{mag}
 use borrow.Author.Tests.{ltb-true, leb-true, eqb-false}
 use Rattle.laws.specs.Choice.{if_then_else_}
 use Rattle.refusals.specs.Refusal.{Answer, value, refused, refusedIf, no}
 use Rattle.refusals.proofs.Values.{same-value, refused-not}
+use Rattle.protection.specs.Delays.{scdTimes, ocdTimes, uvTimes, ovTimes}
 use Rattle.protection.specs.Scd as scd
 use Rattle.protection.specs.Ocd as ocd
 use Rattle.protection.specs.Steps.{scdLower, scdUpper, ocdLower, ocdUpper, step, mvAcross, stepFor, chosen}
 use Rattle.protection.specs.declared.range.OCDSCDRange.{OCDSCDRange}
 use Rattle.protection.specs.declared.scd.SCDThreshold.{SCDThreshold}
 use Rattle.protection.specs.declared.ocd.OCDThreshold.{OCDThreshold}
+use Rattle.protection.proofs.DelayNames.{scd-names, ocd-names, uv-names, ov-names}
 use Rattle.protection.proofs.Walk.{scd-step, ocd-step}
 use Rattle.protection.proofs.Walk as walk
 use Rattle.plan.specs.AsAsked.{AsAsked}
@@ -177,6 +180,10 @@ module _ (gain : ℕ) (offset : ℤ) (config : Config) {steps : InMv} (g : Given
           fields = table-is ∙ ap₂ (λ (x y : ℕ). fieldsOf gain offset config x y (p .values .range)) (g .scd-is) (g .ocd-is);
           scd-step = a ∙ g .scd-is;
           ocd-step = b ∙ g .ocd-is;
+          scd-delay = ap (λ (f : Fields). getD scdTimes (f .scdDelay) 0) table-is ∙ scd-names (config .«scd_delay»);
+          ocd-delay = ap (λ (f : Fields). getD ocdTimes (f .ocdDelay) 0) table-is ∙ ocd-names (config .«ocd_delay»);
+          uv-delay = ap (λ (f : Fields). getD uvTimes (f .uvDelay) 0) table-is ∙ uv-names (config .«uv_delay»);
+          ov-delay = ap (λ (f : Fields). getD ovTimes (f .ovDelay) 0) table-is ∙ ov-names (config .«ov_delay»);
           ov-asked = ov-asked gain offset config s o e′ device byte;
           ov-trip = ov-written gain offset config s o e′ device byte;
           uv-asked = uv-asked gain offset config s o e′ device byte;

@@ -27,7 +27,7 @@ config = record {
   «ocd_threshold» = record { 0 = 20 };
   «uv_delay» = U.«_4s»;
   «uv_threshold» = record { 0 = pos 2800 };
-  «ov_delay» = W.«_4s»;
+  «ov_delay» = W.«_2s»;
   «ov_threshold» = record { 0 = pos 4200 };
 }
 

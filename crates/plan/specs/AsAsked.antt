@@ -6,6 +6,7 @@ use mathlib.Core.List.{List}
 use lib.IntN.{ℤ, pos}
 use lib.ListN.{getD}
 use Rattle.refusals.specs.Refusal.{value}
+use Rattle.protection.specs.Delays.{scdTimes, scdNamed, ocdTimes, ocdNamed, uvTimes, uvNamed, ovTimes, ovNamed}
 use Rattle.protection.specs.Ranges.{rangeFor, forBoth}
 use Rattle.protection.specs.Steps.{scdLower, scdUpper, ocdLower, ocdUpper}
 use Rattle.adc.specs.Trips.{ovTrip, uvTrip, readingOf}
@@ -38,6 +39,11 @@ module _ (gain : ℕ) (offset : ℤ) (config : Config) (six : List ℕ) (v : Val
     -- where each step's code points in the range's list, the step stands
     pub scd-step : stepAt scdLower scdUpper (table .scdThresh) ≡ scdStep config
     pub ocd-step : stepAt ocdLower ocdUpper (table .ocdThresh) ≡ ocdStep config
+    -- where each delay's code points in the datasheet's list, the time in the delay's name stands
+    pub scd-delay : getD scdTimes (table .scdDelay) 0 ≡ scdNamed (config .«scd_delay»)
+    pub ocd-delay : getD ocdTimes (table .ocdDelay) 0 ≡ ocdNamed (config .«ocd_delay»)
+    pub uv-delay : getD uvTimes (table .uvDelay) 0 ≡ uvNamed (config .«uv_delay»)
+    pub ov-delay : getD ovTimes (table .ovDelay) 0 ≡ ovNamed (config .«ov_delay»)
     -- the chip trips at the asked reading with 8 for its low four bits (OV), with 0 for them (UV); but a reading of up to three below 1000 hex,
     -- which an undervoltage asked at its lower limit can have, gets the code FF
     pub ov-asked : AskedIn gain offset (config .«ov_threshold» .0) 0x2005 0x2FF8

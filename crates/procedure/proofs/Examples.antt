@@ -48,7 +48,7 @@ config = record {
   «ocd_threshold» = record { 0 = 20 };
   «uv_delay» = UD.«_4s»;
   «uv_threshold» = record { 0 = pos 2800 };
-  «ov_delay» = VD.«_4s»;
+  «ov_delay» = VD.«_2s»;
   «ov_threshold» = record { 0 = pos 4200 };
 }
 

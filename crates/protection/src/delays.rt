@@ -1,7 +1,7 @@
 // How long a fault stands before the chip acts on it.
 ghost use mathlib.Core.Path.{_≡_};
 ghost use Prim.Native.Nat.{_*_, _<_};
-ghost use Rattle.protection.specs.Delays.{scdCode, ocdCode, uvCode, ovCode, scdBits, ocdBits, uvBits, ovBits};
+ghost use Rattle.protection.specs.Delays.{scdCode, ocdCode, uvCode, ovCode, scdBits, ocdBits, uvBits, ovBits, uvSeconds, ovSeconds};
 
 pub enum SCDDelay {
     _70uS,
@@ -30,10 +30,15 @@ pub enum UVDelay {
 
 pub enum OVDelay {
     _1s,
+    _2s,
     _4s,
     _8s,
-    _16s,
 }
+
+// The datasheet's seconds, by code from 0.
+const UV_SECONDS: [u8; 4] = [1, 4, 8, 16];
+
+const OV_SECONDS: [u8; 4] = [1, 2, 4, 8];
 
 impl SCDDelay {
     pub fn bits(self) -> u8
@@ -84,6 +89,12 @@ impl UVDelay {
         self.code() * 64
     }
 
+    pub fn seconds(self) -> u8
+        ensures { λ r. ⌜ r ≡ uvSeconds self ⌝ }
+    {
+        UV_SECONDS[self.code() as usize]
+    }
+
     fn code(self) -> u8
         ensures { λ r. ⌜ (r ≡ uvCode self) × (r < 4) ⌝ }
     {
@@ -103,14 +114,20 @@ impl OVDelay {
         self.code() * 16
     }
 
+    pub fn seconds(self) -> u8
+        ensures { λ r. ⌜ r ≡ ovSeconds self ⌝ }
+    {
+        OV_SECONDS[self.code() as usize]
+    }
+
     fn code(self) -> u8
         ensures { λ r. ⌜ (r ≡ ovCode self) × (r < 4) ⌝ }
     {
         match self {
             OVDelay::_1s => 0,
-            OVDelay::_4s => 1,
-            OVDelay::_8s => 2,
-            OVDelay::_16s => 3,
+            OVDelay::_2s => 1,
+            OVDelay::_4s => 2,
+            OVDelay::_8s => 3,
         }
     }
 }

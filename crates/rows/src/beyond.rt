@@ -5,6 +5,8 @@ use adc::counter;
 use adc::counter::CurrentAnswer;
 use adc::transfer::AdcTransferFunction;
 use adc::transfer::Asked;
+use job::seconds;
+use job::seconds::SecondsAnswer;
 use plan::InitAnswer;
 use plan::Steps;
 use plan::six_bytes;
@@ -174,6 +176,19 @@ fn flags() {
     print::row(b"D39 the set of bit 6", set.bits() as u32, 0x40);
 }
 
+fn packs() {
+    let high = AdcTransferFunction {
+        gain: 365,
+        offset: 1,
+    };
+    print::signed_row(
+        b"D54 pack of 3 cells, reading 0, offset 1: mV (5 before)",
+        high.pack_voltage(3, 0).0,
+        3,
+    );
+    print::signed_row(b"D54 the same of 5 cells: mV", high.pack_voltage(5, 0).0, 5);
+}
+
 fn delays() {
     print::row(
         b"D53 OV delay of 1 s: bits",
@@ -181,19 +196,49 @@ fn delays() {
         0x00,
     );
     print::row(
-        b"D53 OV delay of 4 s: bits",
-        OVDelay::_4s.bits() as u32,
+        b"D53 OV delay of 2 s: bits",
+        OVDelay::_2s.bits() as u32,
         0x10,
     );
     print::row(
-        b"D53 OV delay of 8 s: bits",
-        OVDelay::_8s.bits() as u32,
+        b"D53 OV delay of 4 s: bits (16 before)",
+        OVDelay::_4s.bits() as u32,
         0x20,
     );
     print::row(
-        b"D53 OV delay of 16 s: bits",
-        OVDelay::_16s.bits() as u32,
+        b"D53 OV delay of 8 s: bits (32 before)",
+        OVDelay::_8s.bits() as u32,
         0x30,
+    );
+}
+
+fn told(answer: SecondsAnswer) -> u32 {
+    match answer {
+        SecondsAnswer::Seconds(s) => s as u32,
+        SecondsAnswer::Refused(e) => e.number() as u32,
+    }
+}
+
+fn delay_seconds() {
+    print::row(
+        b"D53 OV delay of code 1: s (4 before)",
+        told(seconds::ov_seconds(1)),
+        2,
+    );
+    print::row(
+        b"D79 OV delay of code 3: s",
+        told(seconds::ov_seconds(3)),
+        8,
+    );
+    print::row(
+        b"D79 UV delay of code 3: s",
+        told(seconds::uv_seconds(3)),
+        16,
+    );
+    print::row(
+        b"D79 UV delay of code 4: refused",
+        told(seconds::uv_seconds(4)),
+        15,
     );
 }
 
@@ -205,5 +250,7 @@ pub(crate) fn functions() {
     millivolts();
     readings();
     flags();
+    packs();
     delays();
+    delay_seconds();
 }

@@ -52,7 +52,7 @@ fn config(shunt: u32, scd: u32, ocd: u32, uv: i32, ov: i32) -> Config {
         ocd_threshold: Amperes(ocd),
         uv_delay: UVDelay::_4s,
         uv_threshold: MilliVolts(uv),
-        ov_delay: OVDelay::_4s,
+        ov_delay: OVDelay::_2s,
         ov_threshold: MilliVolts(ov),
     }
 }

@@ -36,7 +36,7 @@ config scd ocd uv ov = record {
   «ocd_threshold» = record { 0 = ocd };
   «uv_delay» = U.«_4s»;
   «uv_threshold» = record { 0 = pos uv };
-  «ov_delay» = W.«_4s»;
+  «ov_delay» = W.«_2s»;
   «ov_threshold» = record { 0 = pos ov };
 }
 

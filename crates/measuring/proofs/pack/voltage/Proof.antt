@@ -32,7 +32,7 @@ module _ (s : tie.Start) where
   whole = onTape (voltage device) bus
 
   abbrev volts : ℕ → Answer ℤ
-  volts reading = value (packMillivolts 5 (device .adc .gain) (device .adc .offset) reading)
+  volts reading = value (packMillivolts (device .«cell_count») (device .adc .gain) (device .adc .offset) reading)
 
   refused-9 : isSound device ≡ false → whole ≡ record { answer = refused nine; bus = bus }
   unfolding voltage

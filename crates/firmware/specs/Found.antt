@@ -1,4 +1,4 @@
--- What C is given of the cell on an input: a number, and the byte that it lent, which a refusal leaves as it was.
+-- What C is given by a question that one byte answers: a number, and the byte that it lent, which a refusal leaves as it was.
 -- Assumes nothing.
 use Prim.Native.Nat.{ℕ}
 use mathlib.Core.List.{List, [], _∷_}
@@ -6,11 +6,11 @@ use Rattle.refusals.specs.Refusal.{Answer, value, refused}
 
 pub record Found : Type 0 where
   pub number : ℕ
-  pub cell : List ℕ
+  pub byte : List ℕ
 
 abbrev pub found : ℕ → List ℕ → Found
-found number cell = record { number = number; cell = cell }
+found number byte = record { number = number; byte = byte }
 
 abbrev pub foundFor : Answer ℕ → List ℕ → Found
-foundFor (value k) lent = found 0 (k ∷ [])
+foundFor (value n) lent = found 0 (n ∷ [])
 foundFor (refused r) lent = found (r .number) lent
