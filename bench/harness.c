@@ -112,7 +112,7 @@ static int five(const char *name, int check) {
 
 #ifdef REST
 static int rest(const char *name, int check) {
-    static const uint8_t pack[2] = {0x9C, 0x40}, sensor[2] = {0x0C, 0x45}, control[1] = {0x18};
+    static const uint8_t pack[2] = {0x30, 0xD4}, sensor[2] = {0x0C, 0x45}, control[1] = {0x18};
     if (strcmp(name, "write_raw") == 0) {
         write_tape(check, six, sizeof six);
         return bench_write_raw((uint8_t)inputs, ADDRESS, check, 0x06, six, sizeof six, BUS);
