@@ -14,7 +14,7 @@ use Rattle.numbers.proofs.Between.{Between, of-sum, of-product, of-quotient, of
 use Rattle.numbers.proofs.Casts.{i32-of-u32}
 use Rattle.numbers.proofs.Signed.{product≤}
 use Rattle.adc.specs.Conversion.{millivolts, packMillivolts}
-use Rattle.adc.specs.Crate.{crateUv, cratePackUv, crateMillivolts}
+use Rattle.adc.specs.Crate.{crateUv, cratePackUv, crateMillivolts, CrateGives}
 
 -- the crate's five offsets, in the crate's words and in one product
 five : (offset : ℤ) → pos 5 *ℤ offset *ℤ pos 1000 ≡ offset *ℤ pos 5000
@@ -48,10 +48,6 @@ module _ {up : ℕ} (most times : ℕ) (offset : ℤ) (few : up ≤ most) (byte 
 
   mv-held : low / 1000 ≤ 2147483648 → high / 1000 < 2147483648 → mag (uv ÷ 1000) < 2 ^ 31
   mv-held l h = held (low / 1000) (high / 1000) (uv ÷ 1000) l h mv-between
-
--- ---- of what the crate divides: its `i32` holds it, in both builds, and the u32 that comes of it is, in two's complement, so many mV
-abbrev pub CrateGives : ℤ → ℤ → Type 0
-CrateGives uv mv = (mag uv < 2 ^ 31) × (asI32 (crateMillivolts uv) ≡ mv)
 
 module _ (gain : ℕ) (offset : ℤ) (reading : ℕ) (reads : reading < 65536) (byte : mag offset < 128) where
   pack-uv : cratePackUv gain offset reading ≡ pos (4 * gain * reading) +ℤ offset *ℤ pos 5000

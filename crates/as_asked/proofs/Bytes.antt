@@ -35,6 +35,12 @@ pub behind-bytes : (h g : List Made) → AllBytes (h ++ g) → AllBytes g
 behind-bytes [] g ok = ok
 behind-bytes (m ∷ h) g ok = behind-bytes h g (ok .1)
 
+pub two-bytes : (l : List ℕ) → length l ≡ 2 → l ≡ getD l 0 0 ∷ getD l 1 0 ∷ []
+two-bytes [] e = absurd (omega arith)
+two-bytes (x ∷ []) e = absurd (omega arith)
+two-bytes (x ∷ y ∷ []) e = refl
+two-bytes (x ∷ y ∷ z ∷ l) e = absurd (omega arith)
+
 pub one-byte : (l : List ℕ) → length l ≡ 1 → l ≡ getD l 0 0 ∷ []
 one-byte [] e = absurd (omega arith)
 one-byte (x ∷ []) e = refl

@@ -2,12 +2,13 @@
 -- Assumes nothing.
 use mathlib.Core.Path.{_≡_, refl, sym, ap, subst, _∙_}
 use mathlib.Core.Logic.{_⊎_, ⊎-elim}
-use mathlib.Core.Bool.{Bool, not}
+use mathlib.Core.Bool.{Bool, true, not}
 use mathlib.Core.List.{List, [], _∷_, _++_, map, append-nil, append-assoc, map-append}
 use mathlib.Core.Option.{Option, none, some}
 use Prim.Native.Nat.{ℕ, suc, _<_}
 use native.Mathlib.Omega.{arith}
 use lib.Dec.{T}
+use borrow.Author.Tests.{not-false}
 use lib.ListN.{take}
 use Rattle.laws.proofs.Tests.{allBelow, below}
 use Rattle.refusals.specs.Refusal.{Refusal, Answer, value, refused, nine}
@@ -103,10 +104,12 @@ module _ {Table : Type 0} (same : Table → Table → Bool) (same-is : (x y : Ta
       (by-change all was (change was) refl))
 
 -- ---- 9 ahead of it
-pub soundly-seen : (d : BQ769x0) (P : List Made → Answer Done → Type 0) (p : Prog (Answer Done)) → P [] (refused nine)
-    → throughout (λ y h. AllBytes h → P h y) p → throughout (λ y h. AllBytes h → P h y) (soundly d (refused nine) p)
+pub soundly-seen : {A : Type 0} (d : BQ769x0) (P : List Made → Answer A → Type 0) (p : Prog (Answer A)) → P [] (refused nine)
+    → (isSound d ≡ true → throughout (λ y h. AllBytes h → P h y) p)
+    → throughout (λ y h. AllBytes h → P h y) (soundly d (refused nine) p)
 unfolding soundly throughout
-soundly-seen d P p off on = throughout-if (λ y h. AllBytes h → P h y) (not (isSound d)) _ _ (λ e ok. off) (λ e. on)
+soundly-seen d P p off on =
+    throughout-if (λ y h. AllBytes h → P h y) (not (isSound d)) _ _ (λ e ok. off) (λ e. on (not-false (isSound d) e))
 
 -- ---- a register written whole
 module _ (link : Link) (reg : ℕ) {Table : Type 0} (table : ℕ → Table) where

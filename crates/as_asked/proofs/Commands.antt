@@ -95,7 +95,7 @@ module _ (d : BQ769x0) (tape log : List ℕ) (at : Cursor) (gave : Raw) (log′ 
   unfolding soundly
   by-promise P p off short holds promise =
       shows P (λ (y : Answer Done). y) (soundly d (refused nine) p) (busOf tape log at) _ _ promise
-      (asks-if (not (isSound d)) (λ e. nothing) (λ e. short)) (soundly-seen d P p off holds) bytes
+      (asks-if (not (isSound d)) (λ e. nothing) (λ e. short)) (soundly-seen d P p off (λ sound. holds)) bytes
 
   -- those that read their register first
   module _ {Table : Type 0} (same : Table → Table → Bool) (same-is : (x y : Table) → T (same x y) → x ≡ y)

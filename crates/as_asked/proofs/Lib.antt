@@ -7,4 +7,5 @@ mod Stages
 pub mod Commands
 pub mod Demand2
 pub mod OnChip
+pub mod Pack
 pub mod Reading

@@ -4,3 +4,4 @@ pub mod Seen
 pub mod Init
 pub mod OnChip
 pub mod Commands
+pub mod Pack

@@ -6,11 +6,15 @@ ghost use Rattle.recovery.specs.Runs.{lentCall};
 ghost use Rattle.as_asked.specs.Seen.{Shows};
 ghost use Rattle.as_asked.specs.Init.{Demand2};
 ghost use Rattle.as_asked.specs.OnChip.{SetOnEveryChip};
+ghost use Rattle.as_asked.specs.Pack.{PackVoltage};
 ghost use Rattle.as_asked.specs.Reading.{ExactlyRead};
+ghost use Rattle.measuring.specs.Pack.{asVoltage};
 use bq769x0::BQ769x0;
 use bus::Cursor;
 use bus::link::Link;
 use bus::link::Raw;
+use measuring::pack;
+use measuring::pack::VoltageRead;
 use plan::Config;
 use setup::left::Init;
 
@@ -27,6 +31,12 @@ fn init_on_chip(device: BQ769x0, config: Config, tape: &[u8], log: &mut [u8], at
     ensures { λ r. ⌜ SetOnEveryChip config device (lentCall tape log at r) ⌝ }
 {
     setup::init(device, config, tape, log, at)
+}
+
+fn voltage(device: BQ769x0, tape: &[u8], log: &mut [u8], at: Cursor) -> VoltageRead
+    ensures { λ r. ⌜ Shows (PackVoltage device) (now (tape .entry)) (now (log .exit)) at (r .at) (asVoltage (r .answer)) ⌝ }
+{
+    pack::voltage(device, tape, log, at)
 }
 
 fn read_raw(

@@ -15,7 +15,7 @@ use borrow.Author.Tests.{eq-eqb}
 use Rattle.laws.proofs.Tests.{both-left, both-right, agree, agreeing}
 use Rattle.refusals.specs.Refusal.{value}
 use Rattle.refusals.proofs.Values.{same-value}
-use Rattle.adc.proofs.Crate.{CrateGives}
+use Rattle.adc.specs.Crate.{CrateGives}
 use Rattle.sizes.specs.Sizes.{isCount}
 use Rattle.wiring.specs.Tables.{fitted}
 use Rattle.wiring.proofs.Packs.{of-pack}

@@ -12,8 +12,8 @@ use lib.Signed.{mag, _≤ℤ_}
 use Rattle.numbers.specs.Numbers.{word}
 use Rattle.refusals.specs.Refusal.{value}
 use Rattle.adc.specs.Conversion.{millivolts}
-use Rattle.adc.specs.Crate.{crateUv}
-use Rattle.adc.proofs.Crate.{CrateGives, input-crate, input-range}
+use Rattle.adc.specs.Crate.{crateUv, CrateGives}
+use Rattle.adc.proofs.Crate.{input-crate, input-range}
 use Rattle.adc.specs.declared.transfer.AdcTransferFunction.{AdcTransferFunction}
 use Rattle.wiring.specs.Tables.{fitted}
 use Rattle.wiring.specs.Blocks.{shorted}
