@@ -85,7 +85,10 @@ fn main() {
     let [seed, count, program] = &arguments[..] else { panic!("sample SEED COUNT callrun|staterun") };
     assert!(program == "callrun" || program == "staterun", "sample SEED COUNT callrun|staterun");
     let (seed, count): (u64, usize) = (seed.parse().expect("a seed"), count.parse().expect("a count"));
-    println!("# {count} jobs of {program} from a seed, each with what the Rust crate prints of it, the pack voltage by the count (D54): target/oracle/sample {seed} {count} {program}.");
+    println!(
+        "# {count} jobs of {program} from a seed, each with what the Rust crate prints of it, the pack voltage by the count (D54): \
+         target/oracle/sample {seed} {count} {program}."
+    );
     let all = (0..).map(|index: u64| (index, make::job(seed, index, program == "staterun")));
     for (index, bytes) in all.filter(|(_, bytes)| bytes.len() <= LONGEST).take(count) {
         println!("\n{program}: the Rust's answer: seed {seed}, job {index}\n{}", laid_out(&bytes).join("\n"));

@@ -2,47 +2,52 @@
 -- Assumes nothing.
 use mathlib.Core.Path.{_≡_, refl, sym, ap, subst, _∙_}
 use mathlib.Core.Logic.{_⊎_, ⊎-elim}
-use mathlib.Core.Bool.{Bool, true, not}
+use mathlib.Core.Bool.{Bool}
 use mathlib.Core.List.{List, [], _∷_, _++_, map, append-nil, append-assoc, map-append}
 use mathlib.Core.Option.{Option, none, some}
-use Prim.Native.Nat.{ℕ, suc, _<_}
+use Prim.Native.Nat.{ℕ, suc, _≤_, _<_}
 use native.Mathlib.Omega.{arith}
 use lib.Dec.{T}
-use borrow.Author.Tests.{not-false}
-use lib.ListN.{take}
+use lib.ListN.{length, getD, take}
 use Rattle.laws.proofs.Tests.{allBelow, below}
-use Rattle.refusals.specs.Refusal.{Refusal, Answer, value, refused, nine}
+use Rattle.refusals.specs.Refusal.{Refusal, Answer, value, refused}
 use Rattle.refusals.proofs.Values.{refused-not}
-use Rattle.bus.specs.Programs.{Prog, _orLeave_, _>>=_}
+use Rattle.bus.specs.Programs.{ret, _orLeave_, _>>=_}
 use Rattle.bus.specs.Raw.{Done, readBytes, writeRaw}
 use Rattle.bus.specs.Shown.{Made, Access, access, registersWritten}
 use Rattle.bus.specs.declared.link.Link.{Link}
 use Rattle.bus.proofs.Exchanges.{ReadSeen, WriteSeen, unsent, read-seen, write-seen}
 use Rattle.bus.proofs.OfBytes.{AllBytes}
 use Rattle.bus.proofs.Shown.{writes-append}
-use Rattle.bus.proofs.Throughout.{throughout, throughout-call, throughout-if, throughout-weaken}
-use Rattle.bq769x0.specs.Record.{isSound}
-use Rattle.bq769x0.specs.Registers.{soundly}
-use Rattle.bq769x0.specs.declared.BQ769x0.{BQ769x0}
+use Rattle.bus.proofs.Throughout.{throughout, throughout-call, throughout-weaken}
 use Rattle.commands.specs.Registers.{readRegister, writing, changing}
 use Rattle.as_asked.specs.Seen.{readFrom}
 use Rattle.as_asked.specs.Commands.{wroteByte, Changes, untouched, stands, changed, Becomes}
 use Rattle.as_asked.proofs.Bytes.{data-bytes, one-byte}
 use Rattle.as_asked.proofs.Calibration.{of, given-here}
 
--- ---- a register read
+-- ---- registers read, and a value made of their bytes: accepted, it is of the one transfer; refused, nothing was written
 module _ (link : Link) (reg : ℕ) where
+  pub made-seen : {A : Type 0} (n : ℕ) (least : 1 ≤ n) (f : List ℕ → A) (P : Answer A → List Made → Type 0)
+      → ((bytes : List ℕ) → length bytes ≡ n → P (value (f bytes)) (of link reg n bytes ∷ []))
+      → ((r : Refusal) (h : List Made) → registersWritten (link .check) h ≡ [] → P (refused r) h)
+      → throughout P ((readBytes link reg n orLeave refused) >>= λ bytes. ret (value (f bytes)))
+  unfolding throughout
+  made-seen n least f P given refusing =
+      throughout-call P (ReadSeen (link .check) (link .address) reg n) (readBytes link reg n) refused _ (read-seen link reg n least)
+      (λ r h q. refusing r h (q .0 .unwritten))
+      (λ bytes h q. subst (P (value (f bytes))) (sym (append-nil h ∙ q .0)) (given bytes (q .1)))
+
   abbrev ByteSeen : Answer ℕ → List Made → Type 0
   ByteSeen (value byte) h = h ≡ of link reg 1 (byte ∷ []) ∷ []
   ByteSeen (refused r) h = registersWritten (link .check) h ≡ []
 
   byte-seen : throughout ByteSeen (readRegister link reg)
-  unfolding readRegister throughout
+  unfolding readRegister
   byte-seen =
-      throughout-call ByteSeen (ReadSeen (link .check) (link .address) reg 1) (readBytes link reg 1) refused _
-      (read-seen link reg 1 (omega arith))
-      (λ r h q. q .0 .unwritten)
-      (λ bytes h q. append-nil h ∙ q .0 ∙ ap (λ (l : List ℕ). of link reg 1 l ∷ []) (one-byte bytes (q .1)))
+      made-seen 1 (omega arith) (λ bytes. getD bytes 0 0) ByteSeen
+      (λ bytes one. ap (λ (l : List ℕ). of link reg 1 l ∷ []) (one-byte bytes one))
+      (λ r h unwritten. unwritten)
 
 -- ---- and changed; `same` tests two tables
 module _ {Table : Type 0} (same : Table → Table → Bool) (table : ℕ → Table) (asked : Table → Table) where
@@ -102,14 +107,6 @@ module _ {Table : Type 0} (same : Table → Table → Bool) (same-is : (x y : Ta
       (λ r h q ok. untouched r q)
       (λ was h q. subst (λ (x : List Made). throughout (λ y g. Holds y (x ++ g)) (writing link reg (change was))) (sym q)
       (by-change all was (change was) refl))
-
--- ---- 9 ahead of it
-pub soundly-seen : {A : Type 0} (d : BQ769x0) (P : List Made → Answer A → Type 0) (p : Prog (Answer A)) → P [] (refused nine)
-    → (isSound d ≡ true → throughout (λ y h. AllBytes h → P h y) p)
-    → throughout (λ y h. AllBytes h → P h y) (soundly d (refused nine) p)
-unfolding soundly throughout
-soundly-seen d P p off on =
-    throughout-if (λ y h. AllBytes h → P h y) (not (isSound d)) _ _ (λ e ok. off) (λ e. on (not-false (isSound d) e))
 
 -- ---- a register written whole
 module _ (link : Link) (reg : ℕ) {Table : Type 0} (table : ℕ → Table) where

@@ -2,7 +2,7 @@
 -- all else of the register as it was read, and no other register is written; and what a register that is written whole becomes.
 -- Assumes nothing.
 use mathlib.Core.Path.{_≡_, refl, sym, _∙_}
-use mathlib.Core.Bool.{Bool, true, false, not, true≢false}
+use mathlib.Core.Bool.{Bool, true, false, true≢false}
 use mathlib.Core.List.{List, [], _∷_}
 use mathlib.Core.Option.{Option, none, some}
 use Prim.Native.Nat.{ℕ}
@@ -23,7 +23,6 @@ use Rattle.bus.specs.declared.link.Raw.{Raw}
 use Rattle.bus.proofs.Decoders.{Short}
 use Rattle.bus.proofs.OfBytes.{AllBytes}
 use Rattle.bus.proofs.Throughout.{throughout, throughout-if, throughout-weaken}
-use Rattle.bq769x0.specs.Record.{isSound}
 use Rattle.bq769x0.specs.Registers.{soundly}
 use Rattle.bq769x0.specs.Registers as by-record
 use Rattle.bq769x0.specs.declared.BQ769x0.{BQ769x0}
@@ -40,8 +39,8 @@ use Rattle.as_asked.specs.Seen.{Shows}
 use Rattle.as_asked.specs.Tables.{table01, table00, table04, table05, withDsgOn, withChgOn, withAdcEn, withTempSel}
 use Rattle.as_asked.specs.Commands.{Changes, untouched, Becomes, Resets, shutDown, flag, sourceField, counterFields}
 use Rattle.as_asked.proofs.Bytes.{same04, same04-is, same05, same05-is}
-use Rattle.as_asked.proofs.Changing.{Rightly, changing-seen, soundly-seen, nothing-put, one-seen, three-seen}
-use Rattle.as_asked.proofs.Shows.{shows}
+use Rattle.as_asked.proofs.Changing.{Rightly, changing-seen, nothing-put, one-seen, three-seen}
+use Rattle.as_asked.proofs.Shows.{soundly-shows}
 
 -- ---- the transfers fit their fields
 writing-short : (link : Link) (reg : ℕ) (o : Option ℕ) → Asks Short (writing link reg o)
@@ -92,10 +91,7 @@ module _ (d : BQ769x0) (tape log : List ℕ) (at : Cursor) (gave : Raw) (log′ 
 
   by-promise : (P : List Made → Answer Done → Type 0) (p : Prog (Answer Done)) → P [] (refused nine) → Asks Short p
       → throughout (λ y h. AllBytes h → P h y) p → Kept (soundly d (refused nine) p) → Shown P
-  unfolding soundly
-  by-promise P p off short holds promise =
-      shows P (λ (y : Answer Done). y) (soundly d (refused nine) p) (busOf tape log at) _ _ promise
-      (asks-if (not (isSound d)) (λ e. nothing) (λ e. short)) (soundly-seen d P p off (λ sound. holds)) bytes
+  by-promise P p off short holds = soundly-shows d P p (busOf tape log at) _ _ off short (λ sound. holds) bytes
 
   -- those that read their register first
   module _ {Table : Type 0} (same : Table → Table → Bool) (same-is : (x y : Table) → T (same x y) → x ≡ y)

@@ -1,7 +1,7 @@
 -- Demand 2 of the pack's voltage, for every run of the code by its promise, on every tape of bytes, with an offset that is an `i8`.
 -- Assumes nothing.
 use mathlib.Core.Path.{_≡_, refl, sym, subst, _∙_}
-use mathlib.Core.Bool.{true, not}
+use mathlib.Core.Bool.{true}
 use mathlib.Core.List.{List, [], _∷_, append-nil}
 use Prim.Native.Nat.{ℕ, _<_}
 use native.Mathlib.Omega.{arith}
@@ -16,19 +16,16 @@ use Rattle.adc.specs.Conversion.{packMillivolts}
 use Rattle.adc.proofs.Crate.{pack-crate, pack-range}
 use Rattle.bus.specs.Transfers.{busOf}
 use Rattle.bus.specs.Programs.{Prog, ret, _orLeave_, _>>=_, ran, onTape}
-use Rattle.bus.specs.Raw.{readBytes}
 use Rattle.bus.specs.Shown.{Made, registersWritten}
 use Rattle.bus.specs.declared.Cursor.{Cursor}
-use Rattle.bus.specs.declared.link.Link.{Link}
 use Rattle.bus.proofs.Decoders.{Short}
-use Rattle.bus.proofs.Exchanges.{ReadSeen, unsent, read-seen}
+use Rattle.bus.proofs.Exchanges.{unsent}
 use Rattle.bus.proofs.OfBytes.{AllBytes}
 use Rattle.bus.proofs.Throughout.{throughout, throughout-call}
 use Rattle.bq769x0.specs.Record.{isSound}
-use Rattle.bq769x0.specs.Registers.{soundly}
 use Rattle.bq769x0.specs.declared.BQ769x0.{BQ769x0}
 use Rattle.bq769x0.proofs.Sizes.{sound-sizes, sound-gain}
-use Rattle.chip.proofs.Asks.{Asks, nothing, asks-if, asks-call}
+use Rattle.chip.proofs.Asks.{Asks, nothing, asks-call}
 use Rattle.chip.proofs.Fed.{read-short}
 use Rattle.chip.proofs.RegisterBytes.{getD-byte}
 use Rattle.measuring.specs.Pack.{asVoltage, voltage}
@@ -38,27 +35,12 @@ use Rattle.as_asked.specs.Pack.{ByBytes, PackVoltage}
 use Rattle.as_asked.specs.Seen.{Shows}
 use Rattle.as_asked.proofs.Bytes.{data-bytes, two-bytes}
 use Rattle.as_asked.proofs.Calibration.{of, given-here}
-use Rattle.as_asked.proofs.Changing.{soundly-seen}
-use Rattle.as_asked.proofs.Shows.{shows}
+use Rattle.as_asked.proofs.Changing.{made-seen}
+use Rattle.as_asked.proofs.Shows.{soundly-shows}
 
--- ---- two registers read as a number
 abbrev wordOf : List ℕ → ℕ
 wordOf bytes = word (getD bytes 0 0) (getD bytes 1 0)
 
-module _ (link : Link) (reg : ℕ) where
-  data WordSeen : Answer ℕ → List Made → Type 0 where
-    given : (bytes : List ℕ) → length bytes ≡ 2 → WordSeen (value (wordOf bytes)) (of link reg 2 bytes ∷ [])
-    none : (r : Refusal) (h : List Made) → registersWritten (link .check) h ≡ [] → WordSeen (refused r) h
-
-  word-seen : throughout WordSeen (readWord link reg)
-  unfolding readWord throughout
-  word-seen =
-      throughout-call WordSeen (ReadSeen (link .check) (link .address) reg 2) (readBytes link reg 2) refused _
-      (read-seen link reg 2 (omega arith))
-      (λ r h q. none r h (q .0 .unwritten))
-      (λ bytes h q. subst (WordSeen (value (wordOf bytes))) (sym (append-nil h ∙ q .0)) (given bytes (q .1)))
-
--- ---- and the voltage of it
 module _ (d : BQ769x0) (i8 : mag (d .adc .offset) < 128) where
   abbrev volts : ℕ → ℤ
   volts reading = packMillivolts (d .«cell_count») (d .adc .gain) (d .adc .offset) reading
@@ -106,9 +88,11 @@ module _ (d : BQ769x0) (i8 : mag (d .adc .offset) < 128) where
       unwritten = unsent (d .link .check) (d .link .address) 0x2A _ bytes [];
     }
 
-  by-word : isSound d ≡ true → {y : Answer ℕ} {h : List Made} → WordSeen (d .link) 0x2A y h → Holds (andVolts y) h
-  by-word sound (given bytes two) = answered sound bytes two
-  by-word sound (none r h unwritten) = λ ok. refusing r h unwritten
+  word-seen : isSound d ≡ true → throughout (λ y h. Holds (andVolts y) h) (readWord (d .link) 0x2A)
+  unfolding readWord
+  word-seen sound =
+      made-seen (d .link) 0x2A 2 (omega arith) wordOf (λ y h. Holds (andVolts y) h) (answered sound)
+      (λ r h unwritten ok. refusing r h unwritten)
 
   -- `voltage` behind its test
   abbrev reads : Prog (Answer ℤ)
@@ -117,9 +101,9 @@ module _ (d : BQ769x0) (i8 : mag (d .adc .offset) < 128) where
   reads-seen : isSound d ≡ true → throughout Holds reads
   unfolding throughout
   reads-seen sound =
-      throughout-call Holds (WordSeen (d .link) 0x2A) (readWord (d .link) 0x2A) refused _ (word-seen (d .link) 0x2A)
-      (λ r h q. by-word sound q)
-      (λ reading h q. subst (Holds (value (volts reading))) (sym (append-nil h)) (by-word sound q))
+      throughout-call Holds (λ y h. Holds (andVolts y) h) (readWord (d .link) 0x2A) refused _ (word-seen sound)
+      (λ r h q. q)
+      (λ reading h q. subst (Holds (value (volts reading))) (sym (append-nil h)) q)
 
   reads-short : Asks Short reads
   unfolding readWord
@@ -129,8 +113,6 @@ module _ (d : BQ769x0) (i8 : mag (d .adc .offset) < 128) where
   pub voltage-shows : (tape log : List ℕ) (at : Cursor) (gave : VoltageRead) (log′ : List ℕ) → Bytes tape
       → ran (asVoltage (gave .answer)) tape log′ (gave .at) ≡ onTape (voltage d) (busOf tape log at)
       → Shows (PackVoltage d) tape log′ at (gave .at) (asVoltage (gave .answer))
-  unfolding voltage soundly registersWritten
-  voltage-shows tape log at gave log′ bytes promise =
-      shows (PackVoltage d) (λ (y : Answer ℤ). y) (voltage d) (busOf tape log at) _ _ promise
-      (asks-if (not (isSound d)) (λ e. nothing) (λ e. reads-short))
-      (soundly-seen d (PackVoltage d) reads (refusing nine [] refl) reads-seen) bytes
+  unfolding voltage registersWritten
+  voltage-shows tape log at gave log′ =
+      soundly-shows d (PackVoltage d) reads (busOf tape log at) _ _ (refusing nine [] refl) reads-short reads-seen

@@ -1,10 +1,12 @@
 -- What holds of a program's answer and transfers, whatever these give, its bytes being bytes, a run of it shows.
 -- Assumes nothing.
 use mathlib.Core.Path.{_≡_, sym, ap, subst, _∙_}
-use mathlib.Core.List.{List}
+use mathlib.Core.Bool.{true, not}
+use mathlib.Core.List.{List, []}
 use Prim.Native.Nat.{ℕ}
+use borrow.Author.Tests.{not-false}
 use Rattle.check_byte.specs.CheckByte.{Bytes}
-use Rattle.refusals.specs.Refusal.{Answer}
+use Rattle.refusals.specs.Refusal.{Answer, refused, nine}
 use Rattle.bus.specs.Transfers.{Bus}
 use Rattle.bus.specs.Programs.{Prog, Ran, ran, onTape}
 use Rattle.bus.specs.Shown.{Made, madeBetween}
@@ -13,8 +15,11 @@ use Rattle.bus.proofs.Decoders.{Short}
 use Rattle.bus.proofs.Framed.{history, framed}
 use Rattle.bus.proofs.OfBytes.{AllBytes, all-bytes}
 use Rattle.bus.proofs.Shown.{shown-made}
-use Rattle.bus.proofs.Throughout.{throughout, on-history}
-use Rattle.chip.proofs.Asks.{Asks}
+use Rattle.bus.proofs.Throughout.{throughout, on-history, throughout-if}
+use Rattle.bq769x0.specs.Record.{isSound}
+use Rattle.bq769x0.specs.Registers.{soundly}
+use Rattle.bq769x0.specs.declared.BQ769x0.{BQ769x0}
+use Rattle.chip.proofs.Asks.{Asks, nothing, asks-if}
 use Rattle.as_asked.specs.Seen.{Shows}
 use Rattle.as_asked.proofs.Short.{all-short}
 
@@ -34,3 +39,14 @@ shows {A} P f p b a to promise short holds bytes = record {
       subst (P (history p b)) (sym (ap (λ (r : Ran A). f (r .answer)) promise))
       (on-history (λ x h. AllBytes h → P h (f x)) p holds b (all-bytes p b bytes));
 }
+
+-- 9 ahead of it, where the record is not sound
+pub soundly-shows : {A : Type 0} (d : BQ769x0) (P : List Made → Answer A → Type 0) (p : Prog (Answer A)) (b : Bus) (y : Answer A) {log′ : List ℕ}
+    (to : Cursor) → P [] (refused nine) → Asks Short p → (isSound d ≡ true → throughout (λ x h. AllBytes h → P h x) p) → Bytes (b .tape)
+    → ran y (b .tape) log′ to ≡ onTape (soundly d (refused nine) p) b
+    → Shows P (b .tape) log′ (b .at) to y
+unfolding soundly throughout
+soundly-shows {A} d P p b y to off short on bytes promise =
+    shows P (λ (x : Answer A). x) (soundly d (refused nine) p) b y to promise
+    (asks-if (not (isSound d)) (λ e. nothing) (λ e. short))
+    (throughout-if (λ x h. AllBytes h → P h x) (not (isSound d)) _ _ (λ e ok. off) (λ e. on (not-false (isSound d) e))) bytes
