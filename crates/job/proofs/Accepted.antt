@@ -9,10 +9,10 @@ use Prim.Native.Nat.{ℕ, _+_, _^_, _<_, _≤_}
 use native.Mathlib.Omega.{arith}
 use lib.ListN.{length, drop, drop-of-length-le}
 use lib.Seq.{getD-drop}
-use lib.Dec.{eqb, ltb, eqb→eq}
+use lib.Dec.{eqb, ltb}
 use lib.Signed.{mag}
 use borrow.Author.Tests.{eqb-true, ltb-true}
-use Rattle.laws.proofs.Tests.{below}
+use Rattle.laws.proofs.Tests.{same-below}
 use Rattle.numbers.specs.Numbers.{four, asU32}
 use Rattle.numbers.proofs.Bytes.{word4-four, four-word4}
 use Rattle.numbers.proofs.Casts.{i32-of-u32, u32-of-i32}
@@ -123,7 +123,7 @@ all-of l n e =
     from-drop l 0 n (omega arith) ∙ ap (λ (r : List ℕ). from l 0 n ++ r) (empty l (0 + n) end)
 
 check-written : (n : ℕ) → n < 2 → zeroOrOne (eqb n 1) ≡ n
-check-written n h = eqb→eq _ _ (below 2 (λ n. eqb (zeroOrOne (eqb n 1)) n) tt n h)
+check-written = same-below 2 (λ n. zeroOrOne (eqb n 1)) (λ n. n) tt
 
 device-written : (v : List ℕ) → isDevice v ≡ true → v ≡ deviceValue (deviceAt v 0)
 unfolding isDevice

@@ -4,9 +4,9 @@ use mathlib.Core.Path.{_≡_, refl}
 use mathlib.Core.Bool.{true}
 use Prim.Native.Nat.{ℕ, _<_}
 use lib.ListN.{length}
-use lib.Dec.{T, ltb, eqb, eqb→eq}
+use lib.Dec.{T, ltb, eqb}
 use denote.Enum.Declared.{Record}
-use Rattle.laws.proofs.Tests.{allBelow, below}
+use Rattle.laws.proofs.Tests.{allBelow, same-below}
 use Rattle.laws.proofs.Variants.{variants, by-variants}
 use Rattle.protection.specs.Delays.{scdCode, ocdCode, uvCode, ovCode}
 use Rattle.protection.proofs.delays.SCDDelay as scd
@@ -30,7 +30,7 @@ coded : (enum : Record) (code : enum .D → ℕ) (at : ℕ → enum .D) (count :
 coded enum code at count found listed has = record {
   found = by-variants enum (λ d. at (code d)) (λ d. d) found;
   listed = by-variants enum (λ d. ltb (code d) count) (λ d. true) listed;
-  has = λ n h. eqb→eq _ _ (below count (λ n. eqb (code (at n)) n) has n h);
+  has = same-below count (λ n. code (at n)) (λ n. n) has;
 }
 
 pub scd-coded : Coded scdCode scdAt (length scdDelays)

@@ -37,6 +37,10 @@ below (suc n) f t k h =
     last-or-below k n (eqb k n) refl h f (both-left (f n) (allBelow n f) t)
     (λ (l : k < n). below n f (both-right (f n) (allBelow n f) t) k l)
 
+-- two functions whose numbers are equal at every number below n
+pub same-below : (n : ℕ) (f g : ℕ → ℕ) → T (allBelow n (λ k. eqb (f k) (g k))) → (k : ℕ) → k < n → f k ≡ g k
+same-below n f g t k h = eqb→eq (f k) (g k) (below n (λ k. eqb (f k) (g k)) t k h)
+
 -- two tests that agree at every number below n are one test there
 abbrev pub agree : Bool → Bool → Bool
 agree true b = b

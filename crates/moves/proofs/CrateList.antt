@@ -7,10 +7,10 @@ use mathlib.Core.List.{List, [], _∷_, map}
 use mathlib.Core.Logic.{_≢_}
 use Prim.Native.Nat.{ℕ, zero, suc, _-_, _≤_, _<_}
 use native.Mathlib.Omega.{arith}
-use lib.Dec.{eqb, eqb→eq}
+use lib.Dec.{eqb}
 use lib.ListN.{length, take, getD, set, List·getD-map}
 use lib.Seq.{set-comm, getD-set-other, ext-getD}
-use Rattle.laws.proofs.Tests.{below}
+use Rattle.laws.proofs.Tests.{same-below}
 use Rattle.moves.specs.Moves.{Move, moves, movedIf, inTurn, names, inputsOf}
 use Rattle.laws.proofs.Lists.{map-set, map-take}
 
@@ -66,7 +66,7 @@ module _ {A : Type 0} (none : A) (cells : List A) where
 
   named-at : (k : ℕ) → k < 15 → getD cells k none ≡ getD (map at names) k none
   named-at k h =
-      let name = eqb→eq (getD names k 0) (suc k) (below 15 (λ i. eqb (getD names i 0) (suc i)) tt k h) in
+      let name = same-below 15 (λ i. getD names i 0) suc tt k h in
       sym (List·getD-map at names k 0 ∙ ap at name)
 
   pub shows : length cells ≡ 15 → (x n : ℕ) → take n (inTurn none (moves x n) cells) ≡ map at (inputsOf x n)

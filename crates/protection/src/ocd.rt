@@ -3,7 +3,7 @@ ghost use mathlib.Core.Path.{_≡_};
 ghost use mathlib.Core.List.{_++_};
 ghost use Rattle.protection.specs.Answers.{asCode, asOCDStep};
 ghost use Rattle.protection.specs.Ranges.{codeFor, rangeFor};
-ghost use Rattle.protection.specs.Inside.{rowFor};
+ghost use Rattle.protection.specs.Inside.{rowFor, On, ocdLine};
 ghost use Rattle.protection.specs.Steps.{ocdLower, ocdUpper, step, stepFor};
 ghost use Rattle.protection.specs.Ocd.{mvOf, named};
 use crate::Across;
@@ -47,35 +47,6 @@ pub enum OCDStep {
     Refused(Error),
 }
 
-// Lowest first.
-const THRESHOLDS: [OCDThreshold; 25] = [
-    OCDThreshold::_8mV,
-    OCDThreshold::_11mV,
-    OCDThreshold::_14mV,
-    OCDThreshold::_17mV,
-    OCDThreshold::_19mV,
-    OCDThreshold::_22mV,
-    OCDThreshold::_25mV,
-    OCDThreshold::_28mV,
-    OCDThreshold::_31mV,
-    OCDThreshold::_33mV,
-    OCDThreshold::_36mV,
-    OCDThreshold::_39mV,
-    OCDThreshold::_42mV,
-    OCDThreshold::_44mV,
-    OCDThreshold::_47mV,
-    OCDThreshold::_50mV,
-    OCDThreshold::_56mV,
-    OCDThreshold::_61mV,
-    OCDThreshold::_67mV,
-    OCDThreshold::_72mV,
-    OCDThreshold::_78mV,
-    OCDThreshold::_83mV,
-    OCDThreshold::_89mV,
-    OCDThreshold::_94mV,
-    OCDThreshold::_100mV,
-];
-
 impl OCDThreshold {
     pub fn mv(self) -> u8
         ensures { λ r. ⌜ r ≡ mvOf self ⌝ }
@@ -116,17 +87,7 @@ impl OCDThreshold {
     pub fn from_mv(mv_threshold: u8) -> Self
         ensures { λ r. ⌜ mvOf r ≡ step (ocdLower ++ ocdUpper) «mv_threshold» ⌝ }
     {
-        if 100 < mv_threshold {
-            return OCDThreshold::_100mV;
-        }
-        for i in 0..25 {
-            let t = THRESHOLDS[i];
-            if mv_threshold <= t.mv() {
-                return t;
-            }
-        }
-        // Not reached: the last step is at or above all that the test above leaves.
-        OCDThreshold::_100mV
+        OCDThreshold::ladder(mv_threshold)
     }
 
     pub fn from_current(threshold: Amperes, shunt: MicroOhms) -> OCDStep
@@ -135,6 +96,40 @@ impl OCDThreshold {
         match crate::mv_across(threshold, shunt) {
             Across::Mv(mv) => OCDStep::Step(OCDThreshold::from_mv(mv)),
             Across::Refused(e) => OCDStep::Refused(e),
+        }
+    }
+
+    // A line a step, lowest first; a step that both of the datasheet's tables have has one line. Stated by the answer's own line, which the prover
+    // closes at each arm by itself; `from_mv` says it by the tables.
+    fn ladder(mv_threshold: u8) -> Self
+        ensures { λ r. ⌜ On (ocdLine r) «mv_threshold» ⌝ }
+    {
+        match mv_threshold {
+            0..=8 => OCDThreshold::_8mV,
+            9..=11 => OCDThreshold::_11mV,
+            12..=14 => OCDThreshold::_14mV,
+            15..=17 => OCDThreshold::_17mV,
+            18..=19 => OCDThreshold::_19mV,
+            20..=22 => OCDThreshold::_22mV,
+            23..=25 => OCDThreshold::_25mV,
+            26..=28 => OCDThreshold::_28mV,
+            29..=31 => OCDThreshold::_31mV,
+            32..=33 => OCDThreshold::_33mV,
+            34..=36 => OCDThreshold::_36mV,
+            37..=39 => OCDThreshold::_39mV,
+            40..=42 => OCDThreshold::_42mV,
+            43..=44 => OCDThreshold::_44mV,
+            45..=47 => OCDThreshold::_47mV,
+            48..=50 => OCDThreshold::_50mV,
+            51..=56 => OCDThreshold::_56mV,
+            57..=61 => OCDThreshold::_61mV,
+            62..=67 => OCDThreshold::_67mV,
+            68..=72 => OCDThreshold::_72mV,
+            73..=78 => OCDThreshold::_78mV,
+            79..=83 => OCDThreshold::_83mV,
+            84..=89 => OCDThreshold::_89mV,
+            90..=94 => OCDThreshold::_94mV,
+            95..=255 => OCDThreshold::_100mV,
         }
     }
 

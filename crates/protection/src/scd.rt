@@ -3,7 +3,7 @@ ghost use mathlib.Core.Path.{_≡_};
 ghost use mathlib.Core.List.{_++_};
 ghost use Rattle.protection.specs.Answers.{asCode, asSCDStep};
 ghost use Rattle.protection.specs.Ranges.{codeFor, rangeFor};
-ghost use Rattle.protection.specs.Inside.{rowFor};
+ghost use Rattle.protection.specs.Inside.{rowFor, On, scdLine};
 ghost use Rattle.protection.specs.Steps.{scdLower, scdUpper, step, stepFor};
 ghost use Rattle.protection.specs.Scd.{mvOf, named};
 use crate::Across;
@@ -35,23 +35,6 @@ pub enum SCDStep {
     Refused(Error),
 }
 
-// Lowest first.
-const THRESHOLDS: [SCDThreshold; 13] = [
-    SCDThreshold::_22mV,
-    SCDThreshold::_33mV,
-    SCDThreshold::_44mV,
-    SCDThreshold::_56mV,
-    SCDThreshold::_67mV,
-    SCDThreshold::_78mV,
-    SCDThreshold::_89mV,
-    SCDThreshold::_100mV,
-    SCDThreshold::_111mV,
-    SCDThreshold::_133mV,
-    SCDThreshold::_155mV,
-    SCDThreshold::_178mV,
-    SCDThreshold::_200mV,
-];
-
 impl SCDThreshold {
     pub fn mv(self) -> u8
         ensures { λ r. ⌜ r ≡ mvOf self ⌝ }
@@ -82,17 +65,7 @@ impl SCDThreshold {
     pub fn from_mv(mv_threshold: u8) -> Self
         ensures { λ r. ⌜ mvOf r ≡ step (scdLower ++ scdUpper) «mv_threshold» ⌝ }
     {
-        if 200 < mv_threshold {
-            return SCDThreshold::_200mV;
-        }
-        for i in 0..13 {
-            let t = THRESHOLDS[i];
-            if mv_threshold <= t.mv() {
-                return t;
-            }
-        }
-        // Not reached: the last step is at or above all that the test above leaves.
-        SCDThreshold::_200mV
+        SCDThreshold::ladder(mv_threshold)
     }
 
     pub fn from_current(threshold: Amperes, shunt: MicroOhms) -> SCDStep
@@ -101,6 +74,28 @@ impl SCDThreshold {
         match crate::mv_across(threshold, shunt) {
             Across::Mv(mv) => SCDStep::Step(SCDThreshold::from_mv(mv)),
             Across::Refused(e) => SCDStep::Refused(e),
+        }
+    }
+
+    // A line a step, lowest first; a step that both of the datasheet's tables have has one line. Stated by the answer's own line, which the prover
+    // closes at each arm by itself; `from_mv` says it by the tables.
+    fn ladder(mv_threshold: u8) -> Self
+        ensures { λ r. ⌜ On (scdLine r) «mv_threshold» ⌝ }
+    {
+        match mv_threshold {
+            0..=22 => SCDThreshold::_22mV,
+            23..=33 => SCDThreshold::_33mV,
+            34..=44 => SCDThreshold::_44mV,
+            45..=56 => SCDThreshold::_56mV,
+            57..=67 => SCDThreshold::_67mV,
+            68..=78 => SCDThreshold::_78mV,
+            79..=89 => SCDThreshold::_89mV,
+            90..=100 => SCDThreshold::_100mV,
+            101..=111 => SCDThreshold::_111mV,
+            112..=133 => SCDThreshold::_133mV,
+            134..=155 => SCDThreshold::_155mV,
+            156..=178 => SCDThreshold::_178mV,
+            179..=255 => SCDThreshold::_200mV,
         }
     }
 
