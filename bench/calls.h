@@ -39,6 +39,10 @@ uint8_t bench_set_temperature_source(RECORD, bool thermistor, BUS);
 uint8_t bench_temperature_source(RECORD, BUS);
 uint8_t bench_coulomb_counter_mode(RECORD, uint8_t mode, BUS); /* 0 off, 1 once, any other always */
 
+/* bench_steps: the millivolts of the step that a number of millivolts is given */
+uint8_t bench_scd_from_mv(uint8_t mv_threshold);
+uint8_t bench_ocd_from_mv(uint8_t mv_threshold);
+
 #undef RECORD
 #undef BUS
 #endif

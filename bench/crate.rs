@@ -1,7 +1,8 @@
 //! The Rust crate behind the functions that the harness calls, with the signatures of the port's: bq769x0.h and calls.h have them. One
-//! library for each of harness.c's groups of calls, `five`, `rest` and `commands`: a group is compiled with no other's callers beside it.
+//! library for each of harness.c's groups of calls, `five`, `rest` and `commands`, and one for steps.c, `steps`: a group is compiled with no
+//! other's callers beside it.
 #![no_std]
-#![allow(incomplete_features, dead_code, unused_macros)]
+#![allow(incomplete_features, dead_code, unused_imports, unused_macros)]
 #![feature(generic_const_exprs)]
 mod bus;
 
@@ -225,4 +226,17 @@ on_record! {
     bench_set_temperature_source: set_temperature_source(thermistor: bool), tell_ends;
     bench_temperature_source: temperature_source(), tell_ends;
     bench_coulomb_counter_mode: coulomb_counter_mode(code: u8), tell_ends;
+}
+
+// The millivolts of a step, which are the number that the crate's enums have for it.
+#[cfg(steps)]
+#[no_mangle]
+pub extern "C" fn bench_scd_from_mv(mv_threshold: u8) -> u8 {
+    bq_plain::SCDThreshold::from_mv(mv_threshold) as u8
+}
+
+#[cfg(steps)]
+#[no_mangle]
+pub extern "C" fn bench_ocd_from_mv(mv_threshold: u8) -> u8 {
+    bq_plain::OCDThreshold::from_mv(mv_threshold) as u8
 }
