@@ -18,7 +18,7 @@ use Rattle.numbers.proofs.Bytes.{word4-four, four-word4}
 use Rattle.numbers.proofs.Casts.{i32-of-u32, u32-of-i32}
 use Rattle.fields.specs.Fields.{Field, field, unfield}
 use Rattle.fields.proofs.Fields.{fieldOf, unfield-field, field-unfield, said, lies}
-use Rattle.refusals.specs.Refusal.{Answer, value, refused, no}
+use Rattle.refusals.specs.Refusal.{value, refused, no}
 use Rattle.refusals.proofs.Values.{refused-not, same-value}
 use Rattle.plan.specs.Order.{_andThen_}
 use Rattle.plan.specs.declared.Config.{Config}

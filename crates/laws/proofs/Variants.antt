@@ -37,7 +37,7 @@ by-variants enum f g same d =
     ∙ by-choice (enum .parts) (λ c. f (enum .make c)) (λ c. g (enum .make c)) same (enum .as-values d)
     ∙ ap g (enum .eta d)
 
--- a long test of an enum without fields: antt computes it sooner than it compares two tables
+-- ---- a test that each variant passes, of an enum without fields: however long, it is computed, where two tables would be compared
 abbrev passes : (parts : List (List Field)) → (Choice parts → Bool) → Bool
 passes [] f = true
 passes ([] ∷ parts) f = f (inl tt) && passes parts (λ c. f (inr c))

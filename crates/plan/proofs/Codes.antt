@@ -1,6 +1,6 @@
 -- The code in each step's field is the place of the step in the published list of the range used: at that place the list has the step's millivolts.
 -- Assumes nothing.
-use mathlib.Core.Path.{_≡_, refl, ap, sym, _∙_}
+use mathlib.Core.Path.{_≡_, ap, sym, _∙_}
 use mathlib.Core.Bool.{true}
 use Prim.Native.Nat.{ℕ}
 use lib.IntN.{ℤ}
@@ -42,9 +42,9 @@ module _
     pub scd-code : getD (ofRange (p .values .range) scdLower scdUpper) (readBack (p .regs) .scdThresh) 0 ≡ scd.mvOf s
     scd-code =
         ap (λ (f : Fields). getD (ofRange (p .values .range) scdLower scdUpper) (f .scdThresh) 0) (bytes gain offset config s o e)
-        ∙ in-place scd-steps.enum scd.mvOf scdLower scdUpper refl refl (p .values .range) s (both .0)
+        ∙ in-place scd-steps.enum scd.mvOf scdLower scdUpper tt tt (p .values .range) s (both .0)
 
     pub ocd-code : getD (ofRange (p .values .range) ocdLower ocdUpper) (readBack (p .regs) .ocdThresh) 0 ≡ ocd.mvOf o
     ocd-code =
         ap (λ (f : Fields). getD (ofRange (p .values .range) ocdLower ocdUpper) (f .ocdThresh) 0) (bytes gain offset config s o e)
-        ∙ in-place ocd-steps.enum ocd.mvOf ocdLower ocdUpper refl refl (p .values .range) o (both .1)
+        ∙ in-place ocd-steps.enum ocd.mvOf ocdLower ocdUpper tt tt (p .values .range) o (both .1)

@@ -8,12 +8,14 @@ use lib.Dec.{eqb}
 use lib.ListN.{getD}
 use borrow.Author.Tests.{eqb-true}
 use denote.Enum.Declared.{Record}
+use Rattle.laws.proofs.Tests.{is-true}
+use Rattle.laws.proofs.Variants.{Each}
 use Rattle.refusals.specs.Refusal.{value, refused, no}
 use Rattle.protection.specs.Ranges.{isIn, codeIn}
 use Rattle.protection.specs.declared.range.OCDSCDRange.{OCDSCDRange}
 use Rattle.protection.specs.declared.range.OCDSCDRange.the-variants as R
 use Rattle.plan.specs.Fields.{ofRange}
-use Rattle.plan.proofs.Fits.{All, by-range}
+use Rattle.plan.proofs.Fits.{by-range}
 use Rattle.refusals.proofs.Values.{same-value, refused-not}
 
 -- the range chosen has both steps
@@ -47,11 +49,11 @@ in-list R.Unknown n lower upper = refl
 -- a step that the range used has stands in the range's list at its code
 pub in-place :
     (enum : Record) (mv : enum .D → ℕ) (lower upper : List ℕ)
-    → All enum (λ step. placed lower (mv step))
-    → All enum (λ step. placed upper (mv step))
+    → Each enum (λ step. placed lower (mv step))
+    → Each enum (λ step. placed upper (mv step))
     → (range : OCDSCDRange) (step : enum .D)
     → ofRange range (isIn (mv step) lower) (isIn (mv step) upper) ≡ true
     → getD (ofRange range lower upper) (codeIn (ofRange range lower upper) (mv step)) 0 ≡ mv step
 in-place enum mv lower upper in-lower in-upper range step has =
-    at-place (ofRange range lower upper) (mv step) (by-range placed enum mv lower upper in-lower in-upper range step)
+    at-place (ofRange range lower upper) (mv step) (is-true _ (by-range placed enum mv lower upper in-lower in-upper range step))
     (in-list range (mv step) lower upper ∙ has)
