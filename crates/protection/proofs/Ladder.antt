@@ -1,14 +1,14 @@
--- The ladder beside the two published lists, for SCD and for OCD: its lines have the steps of the two and no others, leave no gap and no overlap,
--- and a number on a line has the line's step by the lists.
+-- The ladder beside the two published lists, for SCD and for OCD: its lines have the steps of the two and no others, and leave no gap and no
+-- overlap. So a number on a line has the line's step by the lists.
 -- Assumes nothing.
-use mathlib.Core.Path.{_≡_, refl}
-use mathlib.Core.Bool.{Bool, true, cond, not, _&&_, _||_}
+use mathlib.Core.Path.{_≡_, refl, sym, _∙_}
+use mathlib.Core.Bool.{Bool, true, cond, _&&_, _||_}
 use mathlib.Core.List.{List, [], _∷_, map, _++_}
 use Prim.Native.Nat.{ℕ, suc, _<_}
-use borrow.Author.Tests.{le-leb}
+use borrow.Author.Tests.{eqb-true, le-leb}
 use denote.Enum.Declared.{Record}
-use lib.Dec.{eqb, leb, eqb→eq}
-use Rattle.laws.proofs.Tests.{allBelow, below}
+use lib.Dec.{eqb, leb}
+use Rattle.laws.proofs.Tests.{allBelow, below, agree, agreeing}
 use Rattle.laws.proofs.Variants.{by-variants, Each, each}
 use Rattle.protection.specs.Inside.{Line, On, scdLine, ocdLine}
 use Rattle.protection.specs.Ranges.{isIn}
@@ -19,6 +19,9 @@ use Rattle.protection.proofs.InRange.{scd-in, ocd-in}
 use Rattle.protection.proofs.scd.SCDThreshold as scd-steps
 use Rattle.protection.proofs.ocd.OCDThreshold as ocd-steps
 
+abbrev pub on : Line → ℕ → Bool
+on line n = leb (line .from) n && leb n (line .to)
+
 -- a kind's lines, each by its step
 pub record Beside {A : Type 0} (mvOf : A → ℕ) (line : A → Line) (steps : List A) (lower upper : List ℕ) : Type 0 where
   -- each line's top is a step of one of the lists; but the highest step's line goes on to 255
@@ -28,38 +31,41 @@ pub record Beside {A : Type 0} (mvOf : A → ℕ) (line : A → Line) (steps : L
   pub has-line : map (λ x. isIn x (map mvOf steps)) (lower ++ upper) ≡ map (λ _. true) (lower ++ upper)
   -- no gap and no overlap from 0 to 255: the lines begin at 0 and then each after the top of the one before, and after the last top is 256
   pub joined : map (λ t. line t .from) steps ++ (256 ∷ []) ≡ 0 ∷ map (λ t. suc (line t .to)) steps
-  -- a number on a line has the line's step by the lists
-  pub picked : (t : A) (n : ℕ) → n < 256 → On (line t) n → mvOf t ≡ step (lower ++ upper) n
+  -- a number is on a line exactly where the line's step is its step by the lists
+  pub exactly : (t : A) (n : ℕ) → n < 256 → on (line t) n ≡ eqb (mvOf t) (step (lower ++ upper) n)
+
+pub picked :
+    {A : Type 0} {mvOf : A → ℕ} {line : A → Line} {steps : List A} {lower upper : List ℕ}
+    → Beside mvOf line steps lower upper
+    → (t : A) (n : ℕ) → n < 256 → On (line t) n → mvOf t ≡ step (lower ++ upper) n
+picked beside t n h is = eqb-true _ _ (sym (beside .exactly t n h) ∙ rw (le-leb _ _ (is .0), le-leb _ _ (is .1)))
 
 module _ (enum : Record) (mvOf : enum .D → ℕ) (line : enum .D → Line) (lower upper : List ℕ) where
-  picks : enum .D → ℕ → Bool
-  picks t n = not (leb (line t .from) n && leb n (line t .to)) || eqb (mvOf t) (step (lower ++ upper) n)
+  agrees : enum .D → ℕ → Bool
+  agrees t n = agree (on (line t) n) (eqb (mvOf t) (step (lower ++ upper) n))
 
-  abbrev picks-all : enum .D → Bool
-  picks-all t = allBelow 256 (picks t)
-
-  pick-is : Each enum picks-all → (t : enum .D) (n : ℕ) → n < 256 → On (line t) n → mvOf t ≡ step (lower ++ upper) n
-  unfolding picks
-  pick-is tests t n h on = eqb→eq _ _ (rw (le-leb _ _ (on .0), le-leb _ _ (on .1)) at (below 256 (picks t) (each enum picks-all tests t) n h))
+  by-tests : Each enum (λ t. allBelow 256 (agrees t)) → (t : enum .D) (n : ℕ) → n < 256 → on (line t) n ≡ eqb (mvOf t) (step (lower ++ upper) n)
+  unfolding agrees
+  by-tests all t n h = agreeing _ _ (below 256 (agrees t) (each enum (λ t. allBelow 256 (agrees t)) all t) n h)
 
 pub scd-beside : Beside scd.mvOf scdLine scd.thresholds scdLower scdUpper
-unfolding picks step
+unfolding agrees step
 scd-beside =
     record {
       published = scd-in;
       top = by-variants scd-steps.enum _ _ refl;
       has-line = refl;
       joined = refl;
-      picked = pick-is scd-steps.enum scd.mvOf scdLine scdLower scdUpper tt;
+      exactly = by-tests scd-steps.enum scd.mvOf scdLine scdLower scdUpper tt;
     }
 
 pub ocd-beside : Beside ocd.mvOf ocdLine ocd.thresholds ocdLower ocdUpper
-unfolding picks step
+unfolding agrees step
 ocd-beside =
     record {
       published = ocd-in;
       top = by-variants ocd-steps.enum _ _ refl;
       has-line = refl;
       joined = refl;
-      picked = pick-is ocd-steps.enum ocd.mvOf ocdLine ocdLower ocdUpper tt;
+      exactly = by-tests ocd-steps.enum ocd.mvOf ocdLine ocdLower ocdUpper tt;
     }
