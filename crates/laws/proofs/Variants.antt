@@ -1,5 +1,6 @@
 -- Two functions of a declared enum that are equal at each variant, whatever its fields hold, are equal at every value. Where both compute,
--- `refl` proves the tables equal, so that a law over an enum is one line, however many variants the enum has.
+-- `refl` proves the tables equal, so that a law over an enum is one line, however many variants the enum has. And a test that each variant of an
+-- enum without fields passes, every value passes.
 -- Assumes nothing.
 use mathlib.Core.Path.{_≡_, ap, sym, subst, _∙_}
 use mathlib.Core.Bool.{Bool, true, false, _&&_}
@@ -37,7 +38,7 @@ by-variants enum f g same d =
     ∙ by-choice (enum .parts) (λ c. f (enum .make c)) (λ c. g (enum .make c)) same (enum .as-values d)
     ∙ ap g (enum .eta d)
 
--- ---- a test that each variant passes, of an enum without fields: however long, it is computed, where two tables would be compared
+-- ---- the test: however long, it is computed, where two tables would be compared
 abbrev passes : (parts : List (List Field)) → (Choice parts → Bool) → Bool
 passes [] f = true
 passes ([] ∷ parts) f = f (inl tt) && passes parts (λ c. f (inr c))

@@ -1,5 +1,6 @@
 -- The Rust's choice, which answers the top step above the top and else walks the steps in their order to the first whose millivolts are n or
--- more, is the step of the published lists: for SCD and for OCD, at every n that a byte holds.
+-- more, is the step of the published lists: for SCD and for OCD, at every n that a byte holds. Below the least step the Rust answers that one without
+-- a walk; the walk's first test gives the same.
 -- Assumes nothing.
 use mathlib.Core.Path.{_≡_}
 use mathlib.Core.Bool.{cond}
