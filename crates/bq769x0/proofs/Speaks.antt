@@ -1,15 +1,16 @@
 -- A sound record speaks to a chip: its link is sound, and it has inputs.
 -- Assumes nothing.
 use mathlib.Core.Path.{_≡_, refl, ap₂}
-use mathlib.Core.Bool.{Bool, true, false, false≢true, not, _&&_, _||_}
-use Prim.Native.Nat.{ℕ, _≤_}
+use mathlib.Core.Bool.{Bool, true, false, not, _&&_}
+use Prim.Native.Nat.{_≤_}
 use native.Mathlib.Omega.{arith}
-use lib.Dec.{eqb, leb, ltb}
-use borrow.Author.Tests.{le-leb, ltb-false, eqb-true, not-false}
+use lib.Dec.{leb, ltb}
+use borrow.Author.Tests.{le-leb, ltb-false, not-false}
 use Rattle.refusals.specs.Refusal.{value, refusedIf}
 use Rattle.refusals.proofs.Values.{refused-not}
 use Rattle.bus.specs.Raw.{Done, sound}
 use Rattle.sizes.specs.Sizes.{isSize, isCount}
+use Rattle.sizes.proofs.Sizes.{by-size}
 use Rattle.bq769x0.specs.Record.{deviceAllowed, isSound}
 use Rattle.bq769x0.specs.declared.BQ769x0.{BQ769x0}
 use Rattle.bq769x0.proofs.Keeps.{decides}
@@ -28,14 +29,11 @@ fits d e =
     (decides d e .device) in
     (not-false (isSize (d .link .x)) (tests .0), le-leb (d .link .address) 127 (ltb-false 127 (d .link .address) (tests .1)))
 
+pub sound-size : (d : BQ769x0) → isSound d ≡ true → isSize (d .link .x) ≡ true
+sound-size d e = fits d e .0
+
 pub link-sound : (d : BQ769x0) → isSound d ≡ true → sound (d .link) ≡ true
 link-sound d e = ap₂ _&&_ (fits d e .1) (fits d e .0)
 
-by-size : (x : ℕ) (a b c : Bool) → eqb x 5 ≡ a → eqb x 10 ≡ b → eqb x 15 ≡ c → (a || b || c) ≡ true → 5 ≤ x
-by-size x true b c five ten fifteen e = omega (arith, eqb-true x 5 five)
-by-size x false true c five ten fifteen e = omega (arith, eqb-true x 10 ten)
-by-size x false false true five ten fifteen e = omega (arith, eqb-true x 15 fifteen)
-by-size x false false false five ten fifteen e = absurd (false≢true e)
-
 pub some-inputs : (d : BQ769x0) → isSound d ≡ true → 5 ≤ d .link .x
-some-inputs d e = by-size (d .link .x) _ _ _ refl refl refl (fits d e .0)
+some-inputs d e = by-size (λ x. 5 ≤ x) (omega arith) (omega arith) (omega arith) (d .link .x) (sound-size d e)

@@ -3,14 +3,14 @@
 -- Assumes nothing.
 use mathlib.Core.Path.{_≡_, refl, sym, ap, subst, _∙_}
 use mathlib.Core.Logic.{_⊎_, inl, inr}
-use mathlib.Core.Bool.{Bool, true, false, not, _&&_, _||_}
+use mathlib.Core.Bool.{Bool, true, false, false≢true, not, _&&_, _||_}
 use mathlib.Core.List.{List, [], _∷_, _++_, append-nil}
 use Prim.Native.Nat.{ℕ, suc, _+_, _*_, _≤_}
 use native.Mathlib.Omega.{arith}
 use lib.Dec.{eqb, leb, ltb}
 use lib.IntN.{pos}
 use lib.ListN.{length, replicate, length-replicate}
-use borrow.Author.Tests.{eq-eqb, eqb-true, leb-true}
+use borrow.Author.Tests.{eq-eqb, eqb-true, leb-true, le-leb, lt-leb, not-true}
 use Rattle.laws.specs.Choice.{if_then_else_}
 use Rattle.refusals.specs.Refusal.{Refusal, Answer, value, refused, refusalIn, answering, no}
 use Rattle.refusals.proofs.Values.{refused-not}
@@ -32,23 +32,31 @@ use Rattle.bus.proofs.Shown.{reads-append, writes-append}
 use Rattle.bus.proofs.Sized.{Sized}
 use Rattle.bus.proofs.Throughout.{throughout, throughout-bind, throughout-call, throughout-if}
 
--- the numbers that transfers are refused with are none of 6, 7 and 8
+-- the numbers that transfers are refused with are none of a plan's, 6, 7 and 8, and none over 21
 abbrev pub OfBus : Refusal → Type 0
-OfBus r = leb 6 (r .number) && leb (r .number) 8 ≡ false
+OfBus r = not (leb 6 (r .number) && leb (r .number) 8) && leb (r .number) 21 ≡ true
+
+both : (a b : Bool) → a && b ≡ true → (a ≡ true) × (b ≡ true)
+both true b e = (refl, e)
+both false b e = absurd (false≢true e)
+
+pub not-planned : (r : Refusal) → OfBus r → leb 6 (r .number) && leb (r .number) 8 ≡ false
+not-planned r e = not-true (leb 6 (r .number) && leb (r .number) 8) (both _ (leb (r .number) 21) e .0)
+
+pub up-to-21 : (r : Refusal) → OfBus r → r .number ≤ 21
+up-to-21 r e = leb-true (r .number) 21 (both (not (leb 6 (r .number) && leb (r .number) 8)) _ e .1)
 
 same-refusal : {A : Type 0} {r x : Refusal} → _≡_ {A = Answer A} (refused r) (refused x) → r ≡ x
 same-refusal {A} e = ap (refusalIn {A = A}) e
 
-over-eight : (n : ℕ) (low : Bool) → leb 15 n ≡ true → low && leb n 8 ≡ false
-over-eight n low h = by low (leb n 8) refl
-  where
-    by : (low few : Bool) → leb n 8 ≡ few → low && few ≡ false
-    by false few e = refl
-    by true false e = refl
-    by true true e = absurd (omega (arith, leb-true n 8 e, leb-true 15 n h))
-
-of-stop : (r : Refusal) → leb 15 (r .number) ≡ true → OfBus r
-of-stop r h = over-eight (r .number) (leb 6 (r .number)) h
+-- 15, 16 and 17
+of-stop : (r : Refusal) → leb 15 (r .number) && leb (r .number) 17 ≡ true → OfBus r
+of-stop r h =
+    let n = r .number in
+    let range = both (leb 15 n) (leb n 17) h in
+    let low = leb-true 15 n (range .0) in
+    let high = leb-true n 17 (range .1) in
+    rw (le-leb 6 n (omega arith), lt-leb n 8 (omega arith), le-leb n 21 (omega arith))
 
 -- ---- a read
 

@@ -1,5 +1,6 @@
 -- Of a tape that is of bytes, each transfer is answered with bytes.
 -- Assumes nothing.
+use mathlib.Core.Path.{sym, subst}
 use mathlib.Core.Bool.{Bool, true, false, _&&_}
 use mathlib.Core.List.{List, [], _∷_}
 use mathlib.Core.Option.{none, some}
@@ -11,11 +12,12 @@ use Rattle.laws.specs.Choice.{if_then_else_}
 use Rattle.numbers.specs.Numbers.{word}
 use Rattle.refusals.specs.Refusal.{no}
 use Rattle.fields.specs.Fields.{unfield}
-use Rattle.bus.specs.Transfers.{Transfer, Outcome, done, fault, stopped, Bus, wanted, untape, says, moved, after, outcome}
+use Rattle.bus.specs.Transfers.{Transfer, Outcome, done, fault, stopped, Bus, wanted, untape, says, after, outcome}
 use Rattle.bus.specs.Programs.{Prog, ret, ask}
 use Rattle.bus.specs.Shown.{Made}
 use Rattle.bus.proofs.Framed.{made, history}
 use Rattle.bus.proofs.Order.{by-room}
+use Rattle.bus.proofs.Programs.{tape-after}
 
 abbrev pub OfBytes : Outcome → Type 0
 OfBytes (done bytes) = Bytes bytes
@@ -61,16 +63,10 @@ one-made t (done bytes) h b k = (b, k)
 one-made t (fault bytes) h b k = (b, k)
 one-made t (stopped r) h b k = k
 
-same-tape : (t : Transfer) (o : Outcome) (b : Bus) → Bytes (b .tape) → Bytes (after t o b .tape)
-unfolding after moved
-same-tape t (done bytes) b h = h
-same-tape t (fault bytes) b h = h
-same-tape t (stopped r) b h = h
-
 pub all-bytes : {A : Type 0} (p : Prog A) (b : Bus) → Bytes (b .tape) → AllBytes (history p b)
 unfolding history
 all-bytes (ret a) b h = tt
 all-bytes (ask t k) b h =
     let o = outcome t b in
     one-made t o _ (by-room t b OfBytes (λ e. said (wanted t) (drop (b .at .tape) (b .tape)) (drop-bytes (b .at .tape) (b .tape) h)) tt)
-    (all-bytes (k o) (after t o b) (same-tape t o b h))
+    (all-bytes (k o) (after t o b) (subst Bytes (sym (tape-after t o b)) h))

@@ -3,7 +3,7 @@
 -- Assumes nothing.
 use mathlib.Core.Path.{_≡_, refl, ap, _∙_}
 use Rattle.refusals.specs.Refusal.{Refusal, Answer, value, refused}
-use Rattle.bus.specs.Transfers.{Transfer, Outcome, Bus, outcome, after}
+use Rattle.bus.specs.Transfers.{Transfer, Outcome, done, fault, stopped, Bus, outcome, moved, after}
 use Rattle.bus.specs.Programs.{Prog, ret, ask, Ran, onTape, bind, proceed, _orLeave_, _>>=_}
 
 -- a transfer whose outcome is known, and then the rest
@@ -48,3 +48,15 @@ module _ {A B : Type 0} (leave : Refusal → B) (f : A → Prog B) (b : Bus) (y 
       → onTape ((ret y orLeave leave) >>= f) b ≡ record { answer = leave r; bus = b }
   unfolding onTape
   pure-off r q = went-off (ret y) leave f b b y refl r q
+
+-- the tape's bytes stay as they were
+pub tape-after : (t : Transfer) (o : Outcome) (b : Bus) → after t o b .tape ≡ b .tape
+unfolding after moved
+tape-after t (done bytes) b = refl
+tape-after t (fault bytes) b = refl
+tape-after t (stopped r) b = refl
+
+pub same-tape : {A : Type 0} (p : Prog A) (b : Bus) → onTape p b .bus .tape ≡ b .tape
+unfolding onTape
+same-tape (ret a) b = refl
+same-tape (ask t k) b = same-tape (k (outcome t b)) (after t (outcome t b) b) ∙ tape-after t (outcome t b) b

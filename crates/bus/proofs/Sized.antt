@@ -30,7 +30,7 @@ use Rattle.bus.proofs.Programs.{onTape-bind}
 abbrev pub Sized : ℕ → Outcome → Type 0
 Sized n (done bytes) = length bytes ≡ n
 Sized n (fault bytes) = length bytes ≤ n
-Sized n (stopped r) = leb 15 (r .number) ≡ true
+Sized n (stopped r) = leb 15 (r .number) && leb (r .number) 17 ≡ true
 
 -- ---- the tape
 by-tag : (n : ℕ) (v : List ℕ) (a b : Bool) → (T a → length v ≡ n) → (T b → length v ≤ n)

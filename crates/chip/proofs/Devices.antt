@@ -36,3 +36,15 @@ module _ {S : Type 0} (move : S → Transfer → Reached S Outcome) where
     pub went-off : (r : Refusal) → onDevice move p s ≡ reached (refused r) s′ → onDevice move ((p orLeave leave) >>= f) s ≡ reached (leave r) s′
     unfolding proceed onDevice
     went-off r e = went e
+
+  -- a call that makes no transfer
+  pub known : {A : Type 0} {y z : Answer A} → y ≡ z → (s : S) → onDevice move (ret y) s ≡ reached z s
+  unfolding onDevice
+  known {A} e s = ap (λ (x : Answer A). reached x s) e
+
+  module _ {A B : Type 0} (y : Answer A) (leave : Refusal → B) (f : A → Prog B) (s : S) where
+    pub pure-on : (a : A) → y ≡ value a → onDevice move ((ret y orLeave leave) >>= f) s ≡ onDevice move (f a) s
+    pure-on a e = went-on (ret y) leave f s s a (known e s)
+
+    pub pure-off : (r : Refusal) → y ≡ refused r → onDevice move ((ret y orLeave leave) >>= f) s ≡ reached (leave r) s
+    pure-off r e = went-off (ret y) leave f s s r (known e s)

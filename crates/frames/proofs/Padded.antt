@@ -7,14 +7,14 @@ use Prim.Native.Nat.{ℕ, zero, suc, _+_, _-_, _*_, _/_, _%_, _≤_}
 use native.Mathlib.Omega.{arith}
 use lib.Dec.{eqb}
 use lib.ListN.{length, take, drop, replicate, length-append, length-replicate, replicate-append-replicate}
-use lib.Seq.{take-all, drop-at}
+use lib.Seq.{take-at, take-all, drop-at}
 use borrow.Author.Tests.{eq-eqb}
 use Rattle.check_byte.specs.CheckByte.{checkByte}
 use Rattle.check_byte.proofs.Zeros.{zero-alone}
 use Rattle.frames.specs.Frames.{readByte, right, dataOf}
 use Rattle.frames.specs.Put.{put}
 use Rattle.frames.proofs.Checked.{length-data}
-use Rattle.frames.proofs.Parts.{right-append, data-append}
+use Rattle.frames.proofs.Parts.{right-append, data-append, take-data}
 use Rattle.frames.proofs.Put.{take-front}
 
 abbrev zeros : ℕ → List ℕ
@@ -72,6 +72,20 @@ right-then before (x ∷ []) n some even = absurd (omega arith)
 right-then before (x ∷ c ∷ rest) n some even =
     ap (λ (t : Bool). eqb c (checkByte (before ++ x ∷ [])) && t)
     (right-append rest (zeros (2 * n)) (omega arith) ∙ rw (right-zeros n) (and-true (right [] rest)))
+
+-- ---- a frame of n pairs in the first places of k pairs of zero
+module _ (f p : List ℕ) (k n : ℕ) (is : p ≡ put (replicate (2 * k) 0) 0 f) (size : length f ≡ 2 * n) (few : n ≤ k) where
+  with-zeros : p ≡ f ++ zeros (2 * (k - n))
+  with-zeros = is ∙ after f (2 * k) (2 * (k - n)) (omega arith)
+
+  pub right-among : (before : List ℕ) → 1 ≤ n → right before p ≡ right before f
+  right-among before some = ap (right before) with-zeros ∙ right-then before f (k - n) (omega arith) (omega arith)
+
+  pub data-among : take n (dataOf p) ≡ dataOf f
+  data-among =
+      take-data n p
+      ∙ ap (λ (l : List ℕ). dataOf (take (2 * n) l)) with-zeros
+      ∙ ap dataOf (take-at f (zeros (2 * (k - n))) (2 * n) size)
 
 -- ---- a frame of n pairs in the first places of 66 zeros, and the eights that it reaches into
 module _ (f p : List ℕ) (n : ℕ) (is : p ≡ put (replicate 66 0) 0 f) (size : length f ≡ 2 * n) (some : 1 ≤ n) (few : n ≤ 30) where

@@ -9,7 +9,7 @@ use lib.Dec.{eqb}
 use lib.ListN.{length, take}
 use lib.Seq.{take-nil}
 use Rattle.check_byte.specs.CheckByte.{checkByte}
-use Rattle.frames.specs.Frames.{right, dataOf}
+use Rattle.frames.specs.Frames.{checked, right, dataOf}
 
 pub right-append : (l m : List ℕ) → length l % 2 ≡ 0 → right [] (l ++ m) ≡ (right [] l && right [] m)
 unfolding right
@@ -36,3 +36,12 @@ take-data (suc n) (x ∷ []) =
 take-data (suc n) (x ∷ c ∷ rest) =
     let two : 2 * suc n ≡ suc (suc (2 * n)) = omega arith in
     rw two (ap (_∷_ x) (take-data n rest))
+
+-- and the pairs of the first n bytes are the first n pairs
+pub take-checked : (n : ℕ) (before bytes : List ℕ) → take (2 * n) (checked before bytes) ≡ checked before (take n bytes)
+unfolding checked
+take-checked zero before bytes = refl
+take-checked (suc n) before [] = take-nil (2 * suc n)
+take-checked (suc n) before (x ∷ bytes) =
+    let two : 2 * suc n ≡ suc (suc (2 * n)) = omega arith in
+    rw two (ap (λ (l : List ℕ). x ∷ checkByte (before ++ x ∷ []) ∷ l) (take-checked n [] bytes))

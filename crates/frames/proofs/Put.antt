@@ -1,13 +1,16 @@
 -- The laws of `put`.
 -- Assumes nothing.
-use mathlib.Core.Path.{_≡_, sym, ap, ap₂, _∙_}
+use mathlib.Core.Path.{_≡_, refl, sym, ap, ap₂, _∙_}
+use mathlib.Core.Bool.{Bool, true, false}
 use mathlib.Core.List.{List, [], _∷_, _++_, append-assoc, append-nil}
-use Prim.Native.Nat.{ℕ, suc, _+_, _-_, _≤_, _<_}
+use Prim.Native.Nat.{ℕ, suc, _+_, _-_, _≤_, _<_, max}
 use native.Mathlib.Nat.{add-zero, add-assoc}
 use native.Mathlib.Numerals.{add-one}
 use native.Mathlib.Omega.{arith}
+use lib.Dec.{leb}
 use lib.ListN.{length, getD, take, drop, set, List·getD-append, length-append, length-drop, take-append-drop, drop-of-length-le}
-use lib.Seq.{take-at, drop-at, getD-append-add, sets, sets-eq, drop-drop, length-take-le, take-suc-set, drop-set-lt, append-snoc}
+use lib.Seq.{take-at, drop-at, getD-append-add, sets, sets-eq, drop-drop, length-take-le, take-add, take-suc-set, drop-set-lt, append-snoc}
+use borrow.Author.Tests.{leb-true, leb-false}
 use Rattle.frames.specs.Put.{put}
 
 -- nothing takes no place
@@ -89,3 +92,48 @@ pub take-front : (l v : List ℕ) → length v ≤ length l → take (length v) 
 take-front l v room =
     let size : length v ≡ 0 + length v = omega arith in
     ap (λ (k : ℕ). take k (put l 0 v)) size ∙ take-put l 0 v (omega arith)
+
+-- ---- one first part over another
+
+-- what stands there already changes nothing
+put-held : (l v : List ℕ) (at : ℕ) → take (at + length v) l ≡ take at l ++ v → put l at v ≡ l
+unfolding put
+put-held l v at e =
+    ap (λ (front : List ℕ). front ++ drop (at + length v) l) (sym e)
+    ∙ take-append-drop (at + length v) l
+
+put-again : (l v w : List ℕ) (at : ℕ) → at + length (v ++ w) ≤ length l
+    → put (put l at (v ++ w)) at v ≡ put l at (v ++ w)
+put-again l v w at room =
+    let all : at + (length v + length w) ≤ length l = rw length-append at room in
+    let first : at + length v ≤ length l = omega arith in
+    put-held (put l at (v ++ w)) v at
+    (ap (take (at + length v)) (sym (put-put l at v first w))
+    ∙ take-before (put l at v) (at + length v) w (rw (length-put l at v first) (omega arith))
+    ∙ take-put l at v first
+    ∙ ap (λ (front : List ℕ). front ++ v) (sym (take-before l at (v ++ w) room)))
+
+-- the longer one is left
+pub put-parts : (l v : List ℕ) (at m n : ℕ) → m ≤ length v → n ≤ length v → at + length v ≤ length l
+    → put (put l at (take m v)) at (take n v) ≡ put l at (take (max m n) v)
+put-parts l v at m n hm hn room = by (leb m n) refl
+  where
+    by : (t : Bool) → leb m n ≡ t → put (put l at (take m v)) at (take n v) ≡ put l at (take (max m n) v)
+    by true e =
+        let less = leb-true m n e in
+        let most : max m n ≡ n = omega arith in
+        let lm = length-take-le m v hm in
+        let ln = length-take-le n v hn in
+        put-over l at (take m v) (omega arith) (take n v) (omega arith) ∙ ap (λ (k : ℕ). put l at (take k v)) (sym most)
+    by false e =
+        let less = leb-false m n e in
+        let most : max m n ≡ m = omega arith in
+        let sum : m ≡ n + (m - n) = omega arith in
+        let split : take m v ≡ take n v ++ take (m - n) (drop n v) =
+        ap (λ (k : ℕ). take k v) sum ∙ take-add n (m - n) v in
+        let lm = length-take-le m v hm in
+        let size : length (take n v ++ take (m - n) (drop n v)) ≡ m = ap length (sym split) ∙ lm in
+        ap (λ (u : List ℕ). put (put l at u) at (take n v)) split
+        ∙ put-again l (take n v) (take (m - n) (drop n v)) at (omega arith)
+        ∙ ap (put l at) (sym split)
+        ∙ ap (λ (k : ℕ). put l at (take k v)) (sym most)

@@ -6,7 +6,7 @@ ghost use Rattle.bus.specs.Lent.{does};
 ghost use Rattle.bus.specs.Raw.{asRaw};
 ghost use Rattle.bq769x0.specs.Record.{leaves};
 ghost use Rattle.procedure.specs.Init.{initBy};
-ghost use Rattle.recovery.specs.Runs.{lentCall};
+ghost use Rattle.runs.specs.Calls.{lentCall};
 ghost use Rattle.recovery.specs.Demand3.{Demand3};
 ghost use Rattle.procedure.specs.Cells.{filled, cellVoltages};
 ghost use Rattle.procedure.specs.Wired.{shown, wired};
@@ -34,7 +34,7 @@ pub fn init(
     ensures { λ r. ⌜ does (initBy stepsFor (now (device .entry)) config) tape log at
         (leaves (asInit (r .answer)) (now (device .exit))) (r .at)
         × Demand3 config (now (device .entry))
-        (lentCall tape log at (record { answer = r .answer; device = now (device .exit); at = r .at })) ⌝ }
+        (lentCall tape log at (leaves (asInit (r .answer)) (now (device .exit))) (r .at)) ⌝ }
 {
     let held = *device;
     let left = setup::init(held, config, tape, log, at);

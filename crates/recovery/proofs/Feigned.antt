@@ -5,7 +5,7 @@ use mathlib.Core.Path.{_≡_, refl, sym, ap, subst}
 use mathlib.Core.Bool.{true}
 use Prim.Native.Nat.{ℕ, _+_, _*_, _≤_}
 use native.Mathlib.Omega.{arith}
-use lib.ListN.{length, take, drop, replicate, length-append, length-take, length-drop, length-replicate}
+use lib.ListN.{length, replicate, length-append, length-replicate}
 use Rattle.refusals.specs.Refusal.{Answer, value}
 use Rattle.plan.specs.Steps.{InMv}
 use Rattle.plan.specs.declared.Config.{Config}
@@ -13,7 +13,6 @@ use Rattle.fields.specs.Fields.{field}
 use Rattle.bus.specs.Transfers.{logField}
 use Rattle.bus.specs.Programs.{Prog, bind, proceed, _>>=_}
 use Rattle.bus.specs.Raw.{Read, sound, readRaw, readBytes}
-use Rattle.bus.specs.declared.Cursor.{Cursor}
 use Rattle.bus.specs.declared.link.Link.{Link}
 use Rattle.bq769x0.specs.Record.{isSound}
 use Rattle.bq769x0.specs.Registers.{soundly}
@@ -25,9 +24,11 @@ use Rattle.chip.specs.Devices.{logOf}
 use Rattle.chip.specs.OnChip.{Wired, onWire}
 use Rattle.chip.proofs.Logs.{log-bind}
 use Rattle.chip.proofs.Raws.{one-read}
+use Rattle.runs.specs.Calls.{Alike}
+use Rattle.runs.proofs.Calls.{is-added}
+use Rattle.runs.proofs.Feigned.{none-added}
 use Rattle.recovery.specs.Runs.{Call, Run}
-use Rattle.recovery.specs.Demand3.{Alike}
-use Rattle.recovery.proofs.ByLog.{is-added}
+use Rattle.recovery.proofs.Asked.{init-fine}
 
 -- ---- seven bytes of log at least
 abbrev Logs7 : {A : Type 0} → Prog A → Wired → Type 0
@@ -55,10 +56,7 @@ module _ (choose : Config → Answer InMv) (config : Config) (d : BQ769x0) (ok :
       (read-logs (d .link) (link-sound d ok) 0x50 2 (omega arith) (omega arith) (omega (arith, some-inputs d ok)) w)))
 
   -- where both positions are as they were, there was no transfer
-  pub not-feigned : {w w′ : Wired} {call first : Call} → Run choose config d w′ first → call .gave .at ≡ call .at
+  pub not-feigned : {w w′ : Wired} {call first : Call} → Run choose config d w′ first → call .at′ ≡ call .at
       → Alike w w′ call first → ⊥
-  not-feigned {w′ = w′} {call = call} run same a =
-      let n = call .at .log in
-      let none = ap (λ (at : Cursor). length (drop n (take (at .log) (call .log′)))) same in
-      omega
-      (arith, none, length-drop n (take n (call .log′)), length-take n (call .log′), ap length (a .log), ap length (is-added run), init-logs w′)
+  not-feigned {w′ = w′} run same a =
+      omega (arith, none-added same a, ap length (is-added (init-fine choose config d) run), init-logs w′)

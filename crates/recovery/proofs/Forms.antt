@@ -6,14 +6,12 @@ use mathlib.Core.List.{List, [], _∷_, _++_}
 use Prim.Native.Nat.{ℕ, _+_, _-_, _/_, _%_, _≤_, _<_, max}
 use native.Mathlib.Omega.{arith}
 use lib.Arith.{bin-ind}
-use lib.ListN.{length, take, drop, getD, set, length-take, length-set, length-append, take-append-drop}
-use lib.Seq.{length-take-le, take-add, take-set-lt, drop-set-lt, set-append-left}
+use lib.ListN.{length, take, drop, getD, set, length-take, length-set, length-append}
+use lib.Seq.{length-take-le, take-set-lt, drop-set-lt, set-append-left}
 use lib.Seq.{getD-set-same, getD-set-other, set-set}
 use lib.Bits.{bitOr, or-step, or-self}
-use lib.Dec.{leb}
-use borrow.Author.Tests.{leb-true, leb-false}
 use Rattle.frames.specs.Put.{put}
-use Rattle.frames.proofs.Put.{put-none, length-put, take-before, take-put, put-put, put-over, put-more}
+use Rattle.frames.proofs.Put.{put-none, length-put, put-over, put-more, put-parts}
 use Rattle.chip.proofs.FirstPart.{old-below, old-above}
 use Rattle.recovery.specs.Recovery.{firstNew, bit6, counted, regsLeft}
 
@@ -27,51 +25,6 @@ or-again b a =
         let high : bitOr n b / 2 ≡ bitOr (n / 2) (b / 2) = omega (arith, or-step n b) in
         let low : bitOr n b % 2 ≡ max (n % 2) (b % 2) = omega (arith, or-step n b) in
         omega (arith, or-step (bitOr n b) b, or-step n b, ap (λ (k : ℕ). bitOr k (b / 2)) high ∙ ih, low)
-
--- ---- put twice
-
--- what stands there already changes nothing
-put-held : (l v : List ℕ) (at : ℕ) → take (at + length v) l ≡ take at l ++ v → put l at v ≡ l
-unfolding put
-put-held l v at e =
-    ap (λ (front : List ℕ). front ++ drop (at + length v) l) (sym e)
-    ∙ take-append-drop (at + length v) l
-
-put-again : (l v w : List ℕ) (at : ℕ) → at + length (v ++ w) ≤ length l
-    → put (put l at (v ++ w)) at v ≡ put l at (v ++ w)
-put-again l v w at room =
-    let all : at + (length v + length w) ≤ length l = rw length-append at room in
-    let first : at + length v ≤ length l = omega arith in
-    put-held (put l at (v ++ w)) v at
-    (ap (take (at + length v)) (sym (put-put l at v first w))
-    ∙ take-before (put l at v) (at + length v) w (rw (length-put l at v first) (omega arith))
-    ∙ take-put l at v first
-    ∙ ap (λ (front : List ℕ). front ++ v) (sym (take-before l at (v ++ w) room)))
-
--- a first part over a first part is the longer one
-put-parts : (l v : List ℕ) (at m n : ℕ) → m ≤ length v → n ≤ length v → at + length v ≤ length l
-    → put (put l at (take m v)) at (take n v) ≡ put l at (take (max m n) v)
-put-parts l v at m n hm hn room = by (leb m n) refl
-  where
-    by : (t : Bool) → leb m n ≡ t → put (put l at (take m v)) at (take n v) ≡ put l at (take (max m n) v)
-    by true e =
-        let less = leb-true m n e in
-        let most : max m n ≡ n = omega arith in
-        let lm = length-take-le m v hm in
-        let ln = length-take-le n v hn in
-        put-over l at (take m v) (omega arith) (take n v) (omega arith) ∙ ap (λ (k : ℕ). put l at (take k v)) (sym most)
-    by false e =
-        let less = leb-false m n e in
-        let most : max m n ≡ m = omega arith in
-        let sum : m ≡ n + (m - n) = omega arith in
-        let split : take m v ≡ take n v ++ take (m - n) (drop n v) =
-        ap (λ (k : ℕ). take k v) sum ∙ take-add n (m - n) v in
-        let lm = length-take-le m v hm in
-        let size : length (take n v ++ take (m - n) (drop n v)) ≡ m = ap length (sym split) ∙ lm in
-        ap (λ (u : List ℕ). put (put l at u) at (take n v)) split
-        ∙ put-again l (take n v) (take (m - n) (drop n v)) at (omega arith)
-        ∙ ap (put l at) (sym split)
-        ∙ ap (λ (k : ℕ). put l at (take k v)) (sym most)
 
 pub put-one : (l : List ℕ) (at x : ℕ) → at < length l → put l at (x ∷ []) ≡ set l at x
 put-one l at x h = put-more l at x [] h ∙ put-none (set l at x) _

@@ -10,7 +10,7 @@ use native.Mathlib.Omega.{arith}
 use lib.Dec.{eqb}
 use lib.IntN.{pos}
 use lib.ListN.{length, replicate}
-use Rattle.refusals.specs.declared.Error.the-variants as E
+use Rattle.refusals.specs.Refusal.{value, no}
 use Rattle.protection.specs.Ranges.{rangeFor, codeFor}
 use Rattle.protection.specs.Steps.{step, mvAcross}
 use Rattle.protection.specs.declared.range.OCDSCDRange.the-variants as R
@@ -22,13 +22,12 @@ use Rattle.plan.specs.Plan.{setFor, planFor}
 use Rattle.plan.specs.Registers.{protectFor}
 use Rattle.plan.specs.Steps.{shuntFor, stepsFor}
 use Rattle.plan.specs.Trips.{tripCodeFor, obtainableOr, withinFor}
-use Rattle.plan.specs.declared.InitAnswer.the-variants as I
 use Rattle.fields.specs.Fields.{field, unfield}
 use Rattle.bus.specs.Transfers.{logField, tapeField, wanted, untape, says, start, moved, after, answered, outcome}
 use Rattle.bus.specs.Programs.{onTape, bind, proceed, _>>=_}
 use Rattle.bus.specs.Raw.{plainly, received, whereRight, checkedly, plainRead, askFrame, checkedRead, readRaw, readBytes}
 use Rattle.bus.specs.Raw.{wrote, askWrite, send, compared, verified, askBack, writeRaw}
-use Rattle.bq769x0.specs.Record.{deviceAllowed, fresh, isSound, withCalibration, withShunt}
+use Rattle.bq769x0.specs.Record.{leaves, leaving, deviceAllowed, fresh, isSound, withCalibration, withShunt}
 use Rattle.bq769x0.specs.Registers.{soundly}
 use Rattle.bq769x0.specs.declared.BQ769x0.{BQ769x0}
 use Rattle.procedure.specs.Calibrate.{calibrate}
@@ -42,7 +41,8 @@ use Rattle.chip.specs.Chip.{held, shows, answers, carried, respondCut}
 use Rattle.chip.specs.OnChip.{Matches, Wired, uncut, onWire}
 use Rattle.chip.specs.declared.Chip.{Chip}
 use Rattle.recovery.specs.Recovery.{planOn, chipLeft}
-use Rattle.recovery.specs.Runs.{Call, enough, on, Run, leftBy, none-yet, one-more, newOf}
+use Rattle.runs.specs.Calls.{on, leftBy}
+use Rattle.recovery.specs.Runs.{Call, enough, Run, none-yet, one-more, newOf}
 use Rattle.recovery.proofs.Demand3.{recovers}
 
 -- ---- a BQ76920 of 5 cells at address 8, and its chip; the third transfer is cut after four bytes
@@ -79,12 +79,9 @@ call check = record {
   tape = tape check;
   log = replicate (enough check) 0;
   at = start;
-  gave = record {
-    answer = I.Refused E.I2CError;
-    device = withCalibration (device check) (record { gain = 365; offset = pos 0 });
-    at = record { tape = length (tape check); log = length (log check) };
-  };
+  gave = leaving (withCalibration (device check) (record { gain = 365; offset = pos 0 })) (no 2 []);
   log′ = log check ++ replicate (enough check - length (log check)) 0;
+  at′ = record { tape = length (tape check); log = length (log check) };
 }
 
 -- ---- once more, on a sound bus: as it would have been at first
@@ -105,18 +102,11 @@ whole check = record {
   tape = wholeTape check;
   log = replicate (enough check) 0;
   at = start;
-  gave = record {
-    answer = I.Ready (record {
-      «ocdscd_range_used» = R.Lower;
-      «scd_threshold» = record { 0 = 56 };
-      «ocd_threshold» = record { 0 = 22 };
-      «uv_threshold» = record { 0 = pos 2797 };
-      «ov_threshold» = record { 0 = pos 4201 };
-    });
-    device = withShunt (call check .gave .device) (record { 0 = 1000 });
-    at = record { tape = length (wholeTape check); log = length (wholeLog check) };
-  };
+  gave =
+      leaves (value (record { range = R.Lower; scd = 56; ocd = 22; uv = pos 2797; ov = pos 4201 }))
+      (withShunt (call check .gave .device) (record { 0 = 1000 }));
   log′ = wholeLog check;
+  at′ = record { tape = length (wholeTape check); log = length (wholeLog check) };
 }
 
 -- on the fresh chip, and on the one that is left

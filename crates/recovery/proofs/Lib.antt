@@ -5,7 +5,6 @@ pub mod Cut
 pub mod Whole
 pub mod Again
 pub mod Asked
-pub mod ByLog
 pub mod EachRegister
 pub mod Makes
 pub mod OfBytes

@@ -17,7 +17,7 @@ use Rattle.plan.specs.Steps.{InMv}
 use Rattle.plan.specs.Plan.{Values, Planned, planFor}
 use Rattle.plan.specs.declared.Config.{Config}
 use Rattle.plan.proofs.Six.{plan-six}
-use Rattle.bus.specs.Programs.{ret, bind}
+use Rattle.bus.specs.Programs.{bind}
 use Rattle.bus.specs.Raw.{sound, writeRaw}
 use Rattle.bus.specs.declared.link.Link.{Link}
 use Rattle.bq769x0.specs.Record.{leaves, isSound, withCalibration, withShunt}
@@ -26,10 +26,11 @@ use Rattle.bq769x0.specs.declared.BQ769x0.{BQ769x0}
 use Rattle.bq769x0.proofs.Speaks.{link-sound, some-inputs}
 use Rattle.procedure.specs.Calibrate.{calibrate}
 use Rattle.procedure.specs.Init.{onward, onwardBy, startCounter, protect, initBy}
-use Rattle.chip.specs.Devices.{reached, onDevice}
+use Rattle.chip.specs.Devices.{reached}
 use Rattle.chip.specs.Chip.{withRegs, held}
-use Rattle.chip.specs.OnChip.{Matches, Wired, uncut, onChip}
+use Rattle.chip.specs.OnChip.{Matches, uncut, onWire}
 use Rattle.chip.specs.declared.Chip.{Chip}
+use Rattle.chip.proofs.Devices.{known}
 use Rattle.chip.proofs.InStep.{InStep, step-ret, step-stage, step-call, step-off, step-read, step-write}
 use Rattle.chip.proofs.Uncut.{read-uncut, write-uncut}
 use Rattle.recovery.specs.Recovery.{calibrationOf, counted, bit6, Leaves}
@@ -46,11 +47,6 @@ linked link d = record {
   «init_complete» = d .«init_complete»;
   readings = d .readings;
 }
-
--- what a call that makes no transfer comes to
-known : {A : Type 0} {y z : Answer A} → y ≡ z → (w : Wired) → onChip (ret y) w ≡ reached z w
-unfolding onDevice
-known {A} e w = ap (λ (x : Answer A). reached x w) e
 
 -- ---- two records of one link, on two chips
 module _ (link : Link) (speaks : sound link ≡ true) (inputs : 5 ≤ link .x) where
@@ -114,11 +110,11 @@ module _ (link : Link) (speaks : sound link ≡ true) (inputs : 5 ≤ link .x) w
           → InStep (protect config steps (withCalibration (linked link d′) adc)) (uncut c′)
           (protect config steps (withCalibration (linked link d) adc)) (uncut c)
       unfolding protect
-      protect-in-step adc (refused r) e = step-off _ _ _ _ (known e (uncut c′)) (known e (uncut c)) (step-ret _ _ _ _)
+      protect-in-step adc (refused r) e = step-off _ _ _ _ (known onWire e (uncut c′)) (known onWire e (uncut c)) (step-ret _ _ _ _)
       protect-in-step adc (value plan) e =
           let six = plan-six _ _ config _ _ plan e in
           let bytes = plan .regs in
-          step-call _ _ _ _ (known e (uncut c′)) (known e (uncut c)) (step-ret _ _ _ _)
+          step-call _ _ _ _ (known onWire e (uncut c′)) (known onWire e (uncut c)) (step-ret _ _ _ _)
           (step-call _ _ _ _
           (write-uncut link speaks c′ m′ 6 bytes (omega arith) (omega arith) (omega arith) (omega arith))
           (write-uncut link speaks c m 6 bytes (omega arith) (omega arith) (omega arith) (omega arith))
@@ -154,10 +150,10 @@ module _ (choose : Config → Answer InMv) (config : Config) (d : BQ769x0) (c : 
       → With (linked (d .link) d′)
   unfolding initBy soundly
   by-choice (refused r) e sound′ m′ =
-      rw (sound′, ok) (step-off _ _ _ _ (known e (uncut c′)) (known e (uncut c)) (step-ret _ _ _ _))
+      rw (sound′, ok) (step-off _ _ _ _ (known onWire e (uncut c′)) (known onWire e (uncut c)) (step-ret _ _ _ _))
   by-choice (value steps) e sound′ m′ =
       rw (sound′, ok)
-      (step-call _ _ _ _ (known e (uncut c′)) (known e (uncut c)) (step-ret _ _ _ _)
+      (step-call _ _ _ _ (known onWire e (uncut c′)) (known onWire e (uncut c)) (step-ret _ _ _ _)
       (stages-in-step (d .link) (link-sound d ok) (some-inputs d ok) c c′ m m′ d d′ (overwritten l m) other steps (same-calibration l m)))
 
   pub in-step : With d′

@@ -15,7 +15,7 @@ use Rattle.plan.specs.Steps.{InMv}
 use Rattle.plan.specs.Plan.{Values, Planned, planFor}
 use Rattle.plan.specs.declared.Config.{Config}
 use Rattle.plan.proofs.Six.{plan-six}
-use Rattle.bus.specs.Programs.{Prog, ret, _orLeave_, _>>=_}
+use Rattle.bus.specs.Programs.{Prog, _orLeave_, _>>=_}
 use Rattle.bus.specs.Raw.{Done, sound, readBytes, writeRaw}
 use Rattle.bus.specs.declared.link.Link.{Link}
 use Rattle.bq769x0.specs.Record.{Left, leaves, leaving, isSound, withCalibration}
@@ -28,7 +28,7 @@ use Rattle.chip.specs.Devices.{Reached, reached, onDevice}
 use Rattle.chip.specs.Chip.{withRegs, held}
 use Rattle.chip.specs.OnChip.{Matches, Wired, uncut, onWire, onChip}
 use Rattle.chip.specs.declared.Chip.{Chip}
-use Rattle.chip.proofs.Devices.{device-bind, went-on, went-off}
+use Rattle.chip.proofs.Devices.{device-bind, went-on, pure-on, pure-off}
 use Rattle.chip.proofs.Uncut.{read-uncut, write-uncut}
 use Rattle.recovery.specs.Recovery.{calibrationOf, planOn, counted, regsLeft}
 use Rattle.recovery.proofs.Calibrated.{calibrate-whole}
@@ -42,16 +42,6 @@ ends config d c (value steps) (refused r) = reached (leaving (withCalibration d 
 ends config d c (value steps) (value plan) =
     reached (leaves (value (plan .values)) (setUp config d c))
     (uncut (withRegs c (regsLeft true 6 (plan .regs) (c .regs))))
-
--- ---- a call that makes no transfer
-module _ {A B : Type 0} (y : Answer A) (leave : Refusal → B) (f : A → Prog B) (w : Wired) where
-  pure-on : (a : A) → y ≡ value a → onChip ((ret y orLeave leave) >>= f) w ≡ onChip (f a) w
-  unfolding onDevice
-  pure-on a e = went-on onWire (ret y) leave f w w a (ap (λ (z : Answer A). reached z w) e)
-
-  pure-off : (r : Refusal) → y ≡ refused r → onChip ((ret y orLeave leave) >>= f) w ≡ reached (leave r) w
-  unfolding onDevice
-  pure-off r e = went-off onWire (ret y) leave f w w r (ap (λ (z : Answer A). reached z w) e)
 
 -- ---- a read and a write on a whole wire, and what follows
 module _ (link : Link) (ok : sound link ≡ true) (c : Chip) (m : Matches link c) {B : Type 0} (leave : Refusal → B) where
@@ -87,7 +77,7 @@ module _ (choose : Config → Answer InMv) (config : Config) (d : BQ769x0) (c : 
       → planFor (calibrationOf c .gain) (calibrationOf c .offset) config (steps .scd) (steps .ocd) ≡ y
       → onChip (protect config steps (withCalibration d (calibrationOf c))) (uncut c) ≡ ends config d c (value steps) y
   unfolding protect
-  protect-uncut steps (refused r) e = pure-off _ _ _ (uncut c) r e
+  protect-uncut steps (refused r) e = pure-off onWire _ _ _ (uncut c) r e
   protect-uncut steps (value plan) e =
       let all = plan-six _ _ config _ _ plan e in
       let speaks = link-sound d ok in
@@ -97,7 +87,7 @@ module _ (choose : Config → Answer InMv) (config : Config) (d : BQ769x0) (c : 
       let size = length-put (c .regs) 6 (plan .regs) (omega (arith, m .size)) ∙ m .size in
       let m′ : Matches (d .link) c′ = record { address = m .address; check = m .check; size = size } in
       let left : List ℕ → Chip = λ v. withRegs c (counted (put (c .regs) 6 v)) in
-      pure-on _ _ _ (uncut c) plan e
+      pure-on onWire _ _ _ (uncut c) plan e
       ∙ write-on (d .link) speaks c m _ _ 6 (plan .regs) (omega arith) (omega arith) (omega arith) (omega arith)
       ∙ start-counter-uncut d′ speaks (omega arith) c′ m′ (plan .values)
       ∙ ap (λ (v : List ℕ). reached (leaves (value (plan .values)) d′) (uncut (left v)))
@@ -106,10 +96,10 @@ module _ (choose : Config → Answer InMv) (config : Config) (d : BQ769x0) (c : 
   by-choice : (y : Answer InMv) → choose config ≡ y
       → onChip (initBy choose d config) (uncut c) ≡ ends config d c y (planOn choose config c)
   unfolding initBy soundly onward onwardBy
-  by-choice (refused r) e = simp ok (pure-off (choose config) _ _ (uncut c) r e)
+  by-choice (refused r) e = simp ok (pure-off onWire (choose config) _ _ (uncut c) r e)
   by-choice (value steps) e =
       simp ok
-      (pure-on (choose config) _ _ (uncut c) steps e
+      (pure-on onWire (choose config) _ _ (uncut c) steps e
       ∙ device-bind onWire (calibrate d) (onward (protect config steps)) (uncut c)
       ∙ ap (λ (r : Reached Wired (Left Done)). onChip (onward (protect config steps) (r .answer)) (r .device))
       (calibrate-whole d (link-sound d ok) (omega (arith, some-inputs d ok)) (uncut c) m refl refl)

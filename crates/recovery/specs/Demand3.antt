@@ -2,40 +2,22 @@
 -- Assumes nothing.
 use mathlib.Core.Path.{_≡_}
 use mathlib.Core.Bool.{true, false}
-use mathlib.Core.List.{List, _++_}
-use mathlib.Core.Option.{Option, some}
-use Prim.Native.Nat.{ℕ, _+_, _≤_}
-use lib.ListN.{length, drop}
+use mathlib.Core.Option.{Option}
+use Prim.Native.Nat.{ℕ}
 use Rattle.refusals.specs.Refusal.{Refusal, Answer, value, refused}
 use Rattle.check_byte.specs.CheckByte.{Bytes}
 use Rattle.plan.specs.Steps.{InMv, stepsFor}
-use Rattle.plan.specs.Plan.{Planned, asInit}
+use Rattle.plan.specs.Plan.{Planned}
 use Rattle.plan.specs.declared.Config.{Config}
 use Rattle.laws.specs.Choice.{if_then_else_}
 use Rattle.bq769x0.specs.Record.{accepts, isSound, withCalibration}
 use Rattle.bq769x0.specs.declared.BQ769x0.{BQ769x0}
 use Rattle.procedure.specs.Init.{initBy}
-use Rattle.chip.specs.Devices.{tapeOf}
-use Rattle.chip.specs.OnChip.{Wired, uncut, onWire, onChip}
+use Rattle.chip.specs.OnChip.{uncut}
 use Rattle.chip.specs.declared.Chip.{Chip}
+use Rattle.runs.specs.Calls.{OnEveryChip, on, leftBy, ByItsLog, Alike}
 use Rattle.recovery.specs.Recovery.{calibrationOf, planOn, Leaves}
-use Rattle.recovery.specs.Runs.{Call, enough, on, Run, transfers, answersTo, added, loggedTransfers, used, leftBy, Runs, one-more, newOf}
-
--- The log of a call reads back as transfers. These leave on the chip what the program leaves there, and the bytes of the tape that the
--- call used are the chip's answers to them.
-pub record ByItsLog (choose : Config → Answer InMv) (config : Config) (d : BQ769x0) (w : Wired) (call : Call) : Type 0 where
-  pub reads-back : loggedTransfers call ≡ some (transfers (loggedTransfers call))
-  pub chip : leftBy w call ≡ onChip (initBy choose d config) w .device .chip
-  pub tape : used call ≡ answersTo (transfers (loggedTransfers call)) w
-
--- Two calls end alike: in the answer, the record, and the chip with all its registers; they log the same bytes, and use as many of their
--- tapes.
-pub record Alike (w w′ : Wired) (a b : Call) : Type 0 where
-  pub answer : a .gave .answer ≡ b .gave .answer
-  pub device : a .gave .device ≡ b .gave .device
-  pub chip : leftBy w a ≡ leftBy w′ b
-  pub log : added a ≡ added b
-  pub tape : length (used a) ≡ length (used b)
+use Rattle.recovery.specs.Runs.{enough, Call, Run, Runs, one-more, newOf}
 
 module _ {choose : Config → Answer InMv} {config : Config} {c : Chip} {d d′ : BQ769x0} {c′ : Chip}
     (runs : Runs choose config c d d′ c′) where
@@ -49,7 +31,7 @@ module _ {choose : Config → Answer InMv} {config : Config} {c : Chip} {d d′ 
   -- A call on a sound bus then, with a configuration that is refused, is refused so, and changes no register; the record's calibration
   -- is read where the steps could be chosen.
   pub record Refuses (other : Config) (r : Refusal) (call : Call) : Type 0 where
-    pub answer : asInit (call .gave .answer) ≡ refused r
+    pub answer : call .gave .answer ≡ refused r
     pub device : call .gave .device ≡ (if accepts (choose other) then withCalibration d′ (calibrationOf c) else d′)
     pub chip : leftBy (uncut c′) call ≡ c′
 
@@ -68,19 +50,14 @@ module _ {choose : Config → Answer InMv} {config : Config} {c : Chip} {d d′ 
         → (call : Call) → Run choose other d′ (uncut c′) call → Refuses other r call
 
 -- One call for a record, on a chip and a wire that is cut anywhere.
-pub record Survives (config : Config) (d : BQ769x0) (c : Chip) (cuts : ℕ → Option ℕ) (call : Call) : Type 0 where
+pub record Survives (config : Config) (d : BQ769x0) (call : Call) (c : Chip) (cuts : ℕ → Option ℕ) : Type 0 where
   pub run : Run stepsFor config d (on c cuts) call
-  pub by-log : ByItsLog stepsFor config d (on c cuts) call
+  pub by-log : ByItsLog (initBy stepsFor d config) (on c cuts) call
   -- where the record is not sound nothing changes
   pub unsound : isSound d ≡ false → (call .gave .device ≡ d) × (leftBy (on c cuts) call ≡ c)
   -- whatever runs came before it
   pub recovers : {c₀ : Chip} {d₀ : BQ769x0} (runs : Runs stepsFor config c₀ d₀ d c) → Recovers (one-more runs cuts call run)
 
--- Demand 3 of one call, whatever chip answers it, on whatever wire: from its position on the tape goes as the chip answers, whatever comes
--- then, and the log has room.
+-- Demand 3 of one call, whatever chip answers it, on whatever wire.
 abbrev pub Demand3 : Config → BQ769x0 → Call → Type 0
-Demand3 config d call =
-    (c : Chip) (cuts : ℕ → Option ℕ) (rest : List ℕ)
-    → drop (call .at .tape) (call .tape) ≡ tapeOf onWire (initBy stepsFor d config) (on c cuts) ++ rest
-    → call .at .log + enough (d .link .check) ≤ length (call .log)
-    → Survives config d c cuts call
+Demand3 config d call = OnEveryChip (initBy stepsFor d config) (enough (d .link .check)) call (Survives config d call)

@@ -1,14 +1,28 @@
--- A count that is allowed is one of a device's, and neither inputs nor cells are more than 15.
+-- There are three counts of inputs. A count of cells that is allowed is one of a device's, and neither inputs nor cells are more than 15.
 -- Assumes nothing.
-use mathlib.Core.Path.{sym, subst}
-use mathlib.Core.Bool.{_&&_, _||_}
+use mathlib.Core.Path.{_≡_, refl, sym, subst}
+use mathlib.Core.Bool.{Bool, true, false, false≢true, _&&_, _||_}
 use mathlib.Core.Logic.{⊎-elim}
 use Prim.Native.Nat.{ℕ, _≤_}
 use native.Mathlib.Omega.{arith}
 use lib.Dec.{T, eqb, leb, eqb→eq, leb→le}
 use mir.Facts.{or-yes}
+use borrow.Author.Tests.{eqb-true}
 use Rattle.laws.proofs.Tests.{both-left, both-right}
 use Rattle.sizes.specs.Sizes.{isSize, within, isCount}
+
+-- what holds of each device's count of inputs holds of every one's
+pub by-size : (P : ℕ → Type 0) → P 5 → P 10 → P 15 → (x : ℕ) → isSize x ≡ true → P x
+by-size P five ten fifteen x e = by (eqb x 5) (eqb x 10) (eqb x 15) refl refl refl e
+  where
+    at : (n : ℕ) → P n → eqb x n ≡ true → P x
+    at n holds t = subst P (sym (eqb-true x n t)) holds
+
+    by : (a b c : Bool) → eqb x 5 ≡ a → eqb x 10 ≡ b → eqb x 15 ≡ c → a || b || c ≡ true → P x
+    by true b c t u v e = at 5 five t
+    by false true c t u v e = at 10 ten u
+    by false false true t u v e = at 15 fifteen v
+    by false false false t u v e = absurd (false≢true e)
 
 -- what holds of each device's packs holds of every pack
 module _ (P : ℕ → ℕ → Type 0)

@@ -1,0 +1,1 @@
+// Calls of the code on the model chip, by their own logs. There is no code here: `specs/` and `proofs/` are the crate.
