@@ -10,9 +10,11 @@ use Rattle.refusals.proofs.OneToOne.{answerBack, undone}
 use Rattle.bus.specs.Transfers.{Bus}
 use Rattle.bus.specs.Programs.{Prog, Ran, ran, onTape}
 use Rattle.bus.specs.declared.Cursor.{Cursor}
-use Rattle.commands.specs.Answers.{asByte, asStat, asFlag, asSource}
+use Rattle.commands.specs.Answers.{asByte, asSet, asStat, asFlag, asSource}
 use Rattle.commands.specs.declared.register.ByteAnswer.{ByteAnswer}
 use Rattle.commands.specs.declared.register.ByteAnswer.the-variants as B
+use Rattle.commands.specs.declared.balancing.SetAnswer.{SetAnswer}
+use Rattle.commands.specs.declared.balancing.SetAnswer.the-variants as I
 use Rattle.commands.specs.declared.status.StatAnswer.{StatAnswer}
 use Rattle.commands.specs.declared.status.StatAnswer.the-variants as S
 use Rattle.commands.specs.declared.switches.FlagAnswer.{FlagAnswer}
@@ -42,6 +44,13 @@ byte-undone (B.Refused e) = ap B.Refused (undone e)
 
 pub byte-agree : Agree asByte
 byte-agree = agreeing asByte (answerBack B.Byte B.Refused) byte-undone
+
+set-undone : (a : SetAnswer) → answerBack I.Set I.Refused (asSet a) ≡ a
+set-undone (I.Set set) = refl
+set-undone (I.Refused e) = ap I.Refused (undone e)
+
+pub set-agree : Agree asSet
+set-agree = agreeing asSet (answerBack I.Set I.Refused) set-undone
 
 stat-undone : (a : StatAnswer) → answerBack S.Status S.Refused (asStat a) ≡ a
 stat-undone (S.Status stat) = refl

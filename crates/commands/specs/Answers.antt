@@ -6,6 +6,8 @@ use Rattle.refusals.specs.Refusal.{Answer, value, refused, asRefusal}
 use Rattle.units.specs.declared.flags.Stat.{Stat}
 use Rattle.commands.specs.declared.register.ByteAnswer.{ByteAnswer}
 use Rattle.commands.specs.declared.register.ByteAnswer.the-variants as B
+use Rattle.commands.specs.declared.balancing.SetAnswer.{SetAnswer}
+use Rattle.commands.specs.declared.balancing.SetAnswer.the-variants as I
 use Rattle.commands.specs.declared.status.StatAnswer.{StatAnswer}
 use Rattle.commands.specs.declared.status.StatAnswer.the-variants as S
 use Rattle.commands.specs.declared.switches.FlagAnswer.{FlagAnswer}
@@ -17,6 +19,10 @@ use Rattle.commands.specs.declared.control.SourceAnswer.the-variants as 
 abbrev pub asByte : ByteAnswer → Answer ℕ
 asByte (B.Byte byte) = value byte
 asByte (B.Refused e) = refused (asRefusal e)
+
+abbrev pub asSet : SetAnswer → Answer ℕ
+asSet (I.Set set) = value set
+asSet (I.Refused e) = refused (asRefusal e)
 
 abbrev pub asStat : StatAnswer → Answer Stat
 asStat (S.Status stat) = value stat

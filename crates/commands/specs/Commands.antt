@@ -3,7 +3,7 @@
 use Prim.Native.Nat.{ℕ}
 use mathlib.Core.Bool.{Bool}
 use mathlib.Core.List.{[], _∷_}
-use Rattle.refusals.specs.Refusal.{Answer, refused, nine}
+use Rattle.refusals.specs.Refusal.{Answer, value, refused, nine}
 use Rattle.units.specs.Flags.{bit}
 use Rattle.units.specs.declared.flags.Stat.{Stat}
 use Rattle.units.specs.declared.flags.SysStat.{SysStat}
@@ -13,6 +13,8 @@ use Rattle.bus.specs.Raw.{Done, refuses}
 use Rattle.bus.specs.Raw as link
 use Rattle.bq769x0.specs.Registers.{soundly, writeRaw}
 use Rattle.bq769x0.specs.declared.BQ769x0.{BQ769x0}
+use Rattle.cellbal.specs.Rules.{allowed}
+use Rattle.cellbal.specs.Registers.{registerCount, registersFor, setOf}
 use Rattle.bits.specs.Bits.{placed, putting, switching, thermistor, holds}
 use Rattle.commands.specs.Registers.{readRegister, readAs, changing}
 use Rattle.commands.specs.declared.control.TemperatureSource.{TemperatureSource}
@@ -20,12 +22,24 @@ use Rattle.commands.specs.declared.control.TemperatureSource.the-variant
 use Rattle.commands.specs.declared.counter.CoulombCounterMode.{CoulombCounterMode}
 use Rattle.commands.specs.declared.counter.CoulombCounterMode.the-variants as M
 
--- ---- balancing: 01
+-- ---- balancing: 01 alone, as the crate has it
 abbrev pub enableBalancing : BQ769x0 → ℕ → Prog (Answer Done)
 enableBalancing d cells = writeRaw d 0x01 (cells ∷ [])
 
 abbrev pub balancingState : BQ769x0 → Prog (Answer ℕ)
 balancingState d = soundly d (refused nine) (readRegister (d .link) 0x01)
+
+-- ---- balancing: a set of the inputs of a whole device, in 01 to 03 as far as it has them; 22, 23, 24 ahead of the one write
+unfoldable pub balanceSet : BQ769x0 → ℕ → ℕ → Prog (Answer Done)
+balanceSet d set limit = soundly d (refused nine) (do
+  _ ← ret (allowed (d .link .x) set limit) orLeave refused
+  link.writeRaw (d .link) 0x01 (registersFor (d .link .x) set))
+
+-- the set that they hold
+unfoldable pub balanceGet : BQ769x0 → Prog (Answer ℕ)
+balanceGet d = soundly d (refused nine) (do
+  bytes ← link.readBytes (d .link) 0x01 (registerCount (d .link .x)) orLeave refused
+  ret (value (setOf bytes)))
 
 -- ---- status: 00
 abbrev pub statOf : ℕ → Stat

@@ -45,6 +45,9 @@ fn named(e: Error) {
         Error::NoRoom => text::aside(b"NoRoom"),
         Error::UnknownRange => text::aside(b"UnknownRange"),
         Error::NoSuchInput => text::aside(b"NoSuchInput"),
+        Error::NotOnDevice => text::aside(b"NotOnDevice"),
+        Error::Neighbours => text::aside(b"Neighbours"),
+        Error::TooManyCells => text::aside(b"TooManyCells"),
     }
 }
 

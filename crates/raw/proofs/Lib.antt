@@ -3,4 +3,5 @@ mod Fields
 mod Heard
 mod Moves
 mod Quick
+mod Three
 mod Writes

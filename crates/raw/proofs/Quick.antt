@@ -154,7 +154,7 @@ reads-plain false check e s = absurd (subst T (sym s) tt)
 
 -- ---- a frame in the first of an array's zeros
 module _ (zeros frame : List ℕ) (k : ℕ) (size : length frame ≡ k) where
-  in-front : take k (frame ++ drop k zeros) ≡ frame
+  pub in-front : take k (frame ++ drop k zeros) ≡ frame
   in-front = take-at frame (drop k zeros) k size
 
   pub among-zeros : frame ++ drop k zeros ≡ put zeros 0 (take k (frame ++ drop k zeros))

@@ -14,6 +14,7 @@ use bus::link::Raw;
 use bus::link::RawAnswer;
 use refusals::Error;
 
+pub mod few;
 mod long;
 pub mod short;
 mod transfer;

@@ -38,6 +38,9 @@ cases reg first second =
     E.NoRoom ∷
     E.UnknownRange ∷
     E.NoSuchInput ∷
+    E.NotOnDevice ∷
+    E.Neighbours ∷
+    E.TooManyCells ∷
     []
 
 abbrev pub caseOf : Row → Error

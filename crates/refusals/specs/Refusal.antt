@@ -67,6 +67,9 @@ asRefusal E.UnknownFlags = no 18 []
 asRefusal E.NoRoom = no 19 []
 asRefusal E.UnknownRange = no 20 []
 asRefusal E.NoSuchInput = no 21 []
+asRefusal E.NotOnDevice = no 22 []
+asRefusal E.Neighbours = no 23 []
+asRefusal E.TooManyCells = no 24 []
 
 -- the same as the code hands it on: the count of the figures, and zero for one that is not there
 abbrev pub inNumbers : Refusal → InNumbers

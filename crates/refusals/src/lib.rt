@@ -26,6 +26,9 @@ pub enum Error {
     NoRoom,
     UnknownRange,
     NoSuchInput,
+    NotOnDevice,
+    Neighbours,
+    TooManyCells,
 }
 
 // A refusal as numbers: its number, how many figures it names, and those; a figure that it does not name is 0.
@@ -77,6 +80,9 @@ impl Error {
             Error::NoRoom => Row(19, 0, 0, 0, 0),
             Error::UnknownRange => Row(20, 0, 0, 0, 0),
             Error::NoSuchInput => Row(21, 0, 0, 0, 0),
+            Error::NotOnDevice => Row(22, 0, 0, 0, 0),
+            Error::Neighbours => Row(23, 0, 0, 0, 0),
+            Error::TooManyCells => Row(24, 0, 0, 0, 0),
         }
     }
 }

@@ -1,0 +1,4 @@
+pub mod Sets
+pub mod Rules
+pub mod Broken
+pub mod Registers
