@@ -91,7 +91,7 @@ module _ (d : BQ769x0) (tape log : List ℕ) (at : Cursor) (gave : Raw) (log′ 
 
   by-promise : (P : List Made → Answer Done → Type 0) (p : Prog (Answer Done)) → P [] (refused nine) → Asks Short p
       → throughout (λ y h. AllBytes h → P h y) p → Kept (soundly d (refused nine) p) → Shown P
-  by-promise P p off short holds = soundly-shows d P p (busOf tape log at) _ _ off short (λ sound. holds) bytes
+  by-promise P p off short holds = soundly-shows d P p (busOf tape log at) _ _ (λ e. off) short (λ sound. holds) bytes
 
   -- those that read their register first
   module _ {Table : Type 0} (same : Table → Table → Bool) (same-is : (x y : Table) → T (same x y) → x ≡ y)

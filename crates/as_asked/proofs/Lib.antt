@@ -9,3 +9,4 @@ pub mod Demand2
 pub mod OnChip
 pub mod Pack
 pub mod Reading
+pub mod Balancing

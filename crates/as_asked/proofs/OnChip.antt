@@ -16,14 +16,14 @@ use Rattle.frames.specs.Put.{put}
 use Rattle.frames.proofs.Put.{length-put}
 use Rattle.plan.specs.AsAsked.{AsAsked}
 use Rattle.plan.specs.Order.{_andThen_}
-use Rattle.plan.specs.Plan.{Values, Planned, planFor, asInit}
+use Rattle.plan.specs.Plan.{Values, Planned, planFor}
 use Rattle.plan.specs.Steps.{InMv, stepsFor}
 use Rattle.plan.specs.declared.Config.{Config}
 use Rattle.plan.proofs.AsAsked.{steps-given, as-asked}
 use Rattle.plan.proofs.Six.{plan-six}
 use Rattle.bus.specs.Transfers.{busOf}
 use Rattle.bus.specs.Programs.{ran, onTape}
-use Rattle.bq769x0.specs.Record.{Left, leaves, leaving, isSound}
+use Rattle.bq769x0.specs.Record.{Left, leaving, isSound}
 use Rattle.bq769x0.specs.Registers.{soundly}
 use Rattle.bq769x0.specs.declared.BQ769x0.{BQ769x0}
 use Rattle.procedure.specs.Init.{initBy}
@@ -37,9 +37,10 @@ use Rattle.chip.proofs.Quits.{Refuses, refuses-by}
 use Rattle.chip.proofs.RegisterBytes.{getD-byte}
 use Rattle.chip.proofs.Shows.{held-is, held-put}
 use Rattle.recovery.specs.Recovery.{calibrationOf, planOn, counted}
-use Rattle.recovery.specs.Runs.{Call, Run, leftBy}
+use Rattle.runs.specs.Calls.{leftBy}
+use Rattle.runs.proofs.Calls as runs
+use Rattle.recovery.specs.Runs.{Call, Run}
 use Rattle.recovery.proofs.Asked.{init-fine}
-use Rattle.recovery.proofs.ByLog.{as-on-chip, left-by-log}
 use Rattle.recovery.proofs.Whole.{ends, whole}
 use Rattle.as_asked.specs.Tables.{table05}
 use Rattle.as_asked.specs.OnChip.{SetOnChip, SetOnEveryChip}
@@ -85,8 +86,8 @@ unfolding initBy soundly onDevice
 unsound d config w e = rw e
 
 -- ---- a run that is accepted
-module _ {config : Config} {d : BQ769x0} {w : Wired} {call : Call} (run : Run stepsFor config d w call) (m : Matches (d .link) (w .chip))
-    (bytes : Bytes (w .chip .regs)) (v : Values) (accepted : asInit (call .gave .answer) ≡ value v) where
+module _ (config : Config) (d : BQ769x0) {w : Wired} {call : Call} (run : Run stepsFor config d w call) (m : Matches (d .link) (w .chip))
+    (bytes : Bytes (w .chip .regs)) (v : Values) (accepted : call .gave .answer ≡ value v) where
   abbrev c : Chip
   c = w .chip
 
@@ -94,7 +95,7 @@ module _ {config : Config} {d : BQ769x0} {w : Wired} {call : Call} (run : Run st
   p = onChip (initBy stepsFor d config) (uncut c)
 
   answered : onChip (initBy stepsFor d config) w .answer .answer ≡ value v
-  answered = sym (ap (λ (l : Left Values). l .answer) (as-on-chip run)) ∙ accepted
+  answered = sym (ap (λ (l : Left Values). l .answer) (runs.gave-is (init-fine stepsFor config d) run)) ∙ accepted
 
   -- the record is sound, or it would be 9
   sound : isSound d ≡ true
@@ -139,7 +140,7 @@ module _ {config : Config} {d : BQ769x0} {w : Wired} {call : Call} (run : Run st
         }
 
   chip-is : leftBy w call ≡ p .device .chip
-  chip-is = left-by-log run ∙ same .chip
+  chip-is = runs.chip-is (init-fine stepsFor config d) run ∙ same .chip
 
   by-plan : (y : Answer InMv) → stepsFor config ≡ y → (z : Answer Planned) → planOn stepsFor config c ≡ z
       → p ≡ ends config d c y z → value v ≡ p .answer .answer → SetOnChip config v c (leftBy w call)
@@ -160,8 +161,8 @@ module _ {config : Config} {d : BQ769x0} {w : Wired} {call : Call} (run : Run st
 
 -- so of a call that kept its promise
 module _ (d : BQ769x0) (config : Config) (call : Call) where
-  pub on-every-chip : ran (leaves (asInit (call .gave .answer)) (call .gave .device)) (call .tape) (call .log′) (call .gave .at)
+  pub on-every-chip : ran (call .gave) (call .tape) (call .log′) (call .at′)
       ≡ onTape (initBy stepsFor d config) (busOf (call .tape) (call .log) (call .at))
       → SetOnEveryChip config d call
   on-every-chip promise w rest v m bytes answers room accepted =
-      set-on-chip {call = call} (record { rest = rest; answers = answers; room = room; promise = promise }) m bytes v accepted
+      set-on-chip config d {call = call} (record { rest = rest; answers = answers; room = room; promise = promise }) m bytes v accepted

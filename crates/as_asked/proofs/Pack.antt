@@ -115,4 +115,4 @@ module _ (d : BQ769x0) (i8 : mag (d .adc .offset) < 128) where
       → Shows (PackVoltage d) tape log′ at (gave .at) (asVoltage (gave .answer))
   unfolding voltage registersWritten
   voltage-shows tape log at gave log′ =
-      soundly-shows d (PackVoltage d) reads (busOf tape log at) _ _ (refusing nine [] refl) reads-short reads-seen
+      soundly-shows d (PackVoltage d) reads (busOf tape log at) _ _ (λ e. refusing nine [] refl) reads-short reads-seen

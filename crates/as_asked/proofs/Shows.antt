@@ -1,10 +1,10 @@
 -- What holds of a program's answer and transfers, whatever these give, its bytes being bytes, a run of it shows.
 -- Assumes nothing.
 use mathlib.Core.Path.{_≡_, sym, ap, subst, _∙_}
-use mathlib.Core.Bool.{true, not}
+use mathlib.Core.Bool.{true, false, not}
 use mathlib.Core.List.{List, []}
 use Prim.Native.Nat.{ℕ}
-use borrow.Author.Tests.{not-false}
+use borrow.Author.Tests.{not-true, not-false}
 use Rattle.check_byte.specs.CheckByte.{Bytes}
 use Rattle.refusals.specs.Refusal.{Answer, refused, nine}
 use Rattle.bus.specs.Transfers.{Bus}
@@ -42,11 +42,11 @@ shows {A} P f p b a to promise short holds bytes = record {
 
 -- 9 ahead of it, where the record is not sound
 pub soundly-shows : {A : Type 0} (d : BQ769x0) (P : List Made → Answer A → Type 0) (p : Prog (Answer A)) (b : Bus) (y : Answer A) {log′ : List ℕ}
-    (to : Cursor) → P [] (refused nine) → Asks Short p → (isSound d ≡ true → throughout (λ x h. AllBytes h → P h x) p) → Bytes (b .tape)
+    (to : Cursor) → (isSound d ≡ false → P [] (refused nine)) → Asks Short p → (isSound d ≡ true → throughout (λ x h. AllBytes h → P h x) p) → Bytes (b .tape)
     → ran y (b .tape) log′ to ≡ onTape (soundly d (refused nine) p) b
     → Shows P (b .tape) log′ (b .at) to y
 unfolding soundly throughout
 soundly-shows {A} d P p b y to off short on bytes promise =
     shows P (λ (x : Answer A). x) (soundly d (refused nine) p) b y to promise
     (asks-if (not (isSound d)) (λ e. nothing) (λ e. short))
-    (throughout-if (λ x h. AllBytes h → P h x) (not (isSound d)) _ _ (λ e ok. off) (λ e. on (not-false (isSound d) e))) bytes
+    (throughout-if (λ x h. AllBytes h → P h x) (not (isSound d)) _ _ (λ e ok. off (not-true (isSound d) e)) (λ e. on (not-false (isSound d) e))) bytes

@@ -26,7 +26,7 @@ use Rattle.bus.specs.Raw.{Done, readBytes, writeRaw}
 use Rattle.bus.specs.Shown.{Made, Access, access, registersRead, registersWritten, firstOf}
 use Rattle.bus.specs.declared.link.Link.{Link}
 use Rattle.chip.proofs.RegisterBytes.{getD-byte}
-use Rattle.bus.proofs.Exchanges.{OfBus, ReadSeen, WriteSeen, unsent, read-seen, write-seen}
+use Rattle.bus.proofs.Exchanges.{OfBus, not-planned, ReadSeen, WriteSeen, unsent, read-seen, write-seen}
 use Rattle.bus.proofs.OfBytes.{AllBytes}
 use Rattle.bus.proofs.Shown.{reads-append, writes-append}
 use Rattle.bus.proofs.Throughout.{throughout, throughout-bind, throughout-call, throughout-pure, throughout-if}
@@ -61,7 +61,7 @@ steps-refused config r =
     refused-not (sym e)
 
 of-bus : (r : Refusal) → OfBus r → of678 {A = Values} (refused r) ≡ none
-of-bus r e = rw e
+of-bus r e = rw (not-planned r e)
 
 module _ (link : Link) (config : Config) where
   -- ahead of the calibration

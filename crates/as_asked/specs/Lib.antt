@@ -4,4 +4,5 @@ pub mod Seen
 pub mod Init
 pub mod OnChip
 pub mod Commands
+pub mod Balancing
 pub mod Pack

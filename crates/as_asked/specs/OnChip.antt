@@ -7,7 +7,7 @@ use lib.ListN.{length, drop, getD}
 use Rattle.check_byte.specs.CheckByte.{Bytes}
 use Rattle.refusals.specs.Refusal.{value}
 use Rattle.plan.specs.AsAsked.{AsAsked}
-use Rattle.plan.specs.Plan.{Values, asInit}
+use Rattle.plan.specs.Plan.{Values}
 use Rattle.plan.specs.Steps.{stepsFor}
 use Rattle.plan.specs.declared.Config.{Config}
 use Rattle.bq769x0.specs.declared.BQ769x0.{BQ769x0}
@@ -17,7 +17,8 @@ use Rattle.chip.specs.Devices.{tapeOf}
 use Rattle.chip.specs.OnChip.{Matches, Wired, onWire}
 use Rattle.chip.specs.declared.Chip.{Chip}
 use Rattle.recovery.specs.Recovery.{calibrationOf}
-use Rattle.recovery.specs.Runs.{Call, enough, leftBy}
+use Rattle.runs.specs.Calls.{leftBy}
+use Rattle.recovery.specs.Runs.{Call, enough}
 use Rattle.as_asked.specs.Tables.{table05, counting}
 
 pub record SetOnChip (config : Config) (v : Values) (before after : Chip) : Type 0 where
@@ -36,5 +37,5 @@ SetOnEveryChip config d call =
     (w : Wired) (rest : List ℕ) (v : Values) → Matches (d .link) (w .chip) → Bytes (w .chip .regs)
     → drop (call .at .tape) (call .tape) ≡ tapeOf onWire (initBy stepsFor d config) w ++ rest
     → call .at .log + enough (d .link .check) ≤ length (call .log)
-    → asInit (call .gave .answer) ≡ value v
+    → call .gave .answer ≡ value v
     → SetOnChip config v (w .chip) (leftBy w call)

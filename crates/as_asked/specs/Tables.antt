@@ -26,7 +26,7 @@ table00 byte = record {
   ocd = bitField 0 0 byte;
 }
 
--- 01, CELLBAL1: which of cells 5 to 1 are balanced
+-- 01, CELLBAL1: which of inputs 5 to 1 are balanced; 02 and 03 have inputs 10 to 6 and 15 to 11 in the same places
 pub record Table01 : Type 0 where
   pub reserved : ℕ
   pub cb5 : ℕ

@@ -2,7 +2,8 @@
 // A function here is a call of the driver, under demand 2 for a contract in place of the call's own promise. Nothing calls it: it is there so that
 // the demand is held to the code, on every input.
 ghost use Rattle.plan.specs.Plan.{asInit};
-ghost use Rattle.recovery.specs.Runs.{lentCall};
+ghost use Rattle.bq769x0.specs.Record.{leaves};
+ghost use Rattle.runs.specs.Calls.{lentCall};
 ghost use Rattle.as_asked.specs.Seen.{Shows};
 ghost use Rattle.as_asked.specs.Init.{Demand2};
 ghost use Rattle.as_asked.specs.OnChip.{SetOnEveryChip};
@@ -28,7 +29,7 @@ fn init(device: BQ769x0, config: Config, tape: &[u8], log: &mut [u8], at: Cursor
 
 // The same call, on the model chip.
 fn init_on_chip(device: BQ769x0, config: Config, tape: &[u8], log: &mut [u8], at: Cursor) -> Init
-    ensures { λ r. ⌜ SetOnEveryChip config device (lentCall tape log at r) ⌝ }
+    ensures { λ r. ⌜ SetOnEveryChip config device (lentCall tape log at (leaves (asInit (r .answer)) (r .device)) (r .at)) ⌝ }
 {
     setup::init(device, config, tape, log, at)
 }

@@ -1,13 +1,16 @@
 // The register commands.
 ghost use mathlib.Core.List.{[], _∷_};
 ghost use Rattle.bus.specs.Raw.{asRaw};
+ghost use Rattle.commands.specs.Answers.{asSet};
 ghost use Rattle.as_asked.specs.Seen.{Shows};
 ghost use Rattle.as_asked.specs.Tables.{table01, table04, table05, withDsgOn, withChgOn, withAdcEn, withTempSel};
+ghost use Rattle.as_asked.specs.Balancing.{SetAsAsked, SetAsRead};
 ghost use Rattle.as_asked.specs.Commands.{Changes, Becomes, Resets, shutDown, flag, sourceField, counterFields};
 use bq769x0::BQ769x0;
 use bus::Cursor;
 use bus::link::Raw;
 use commands::balancing;
+use commands::balancing::SetRead;
 use commands::control;
 use commands::control::TemperatureSource;
 use commands::counter;
@@ -69,6 +72,19 @@ fn enable_balancing(device: BQ769x0, cells: u8, tape: &[u8], log: &mut [u8], at:
         (now (tape .entry)) (now (log .exit)) at (r .at) (asRaw (r .answer)) ⌝ }
 {
     balancing::enable_balancing(device, cells, tape, log, at)
+}
+
+fn balance_set(device: BQ769x0, set: u16, limit: u8, tape: &[u8], log: &mut [u8], at: Cursor) -> Raw
+    ensures { λ r. ⌜ Shows (λ seen. SetAsAsked device seen set limit)
+        (now (tape .entry)) (now (log .exit)) at (r .at) (asRaw (r .answer)) ⌝ }
+{
+    balancing::balance_set(device, set, limit, tape, log, at)
+}
+
+fn balance_get(device: BQ769x0, tape: &[u8], log: &mut [u8], at: Cursor) -> SetRead
+    ensures { λ r. ⌜ Shows (SetAsRead device) (now (tape .entry)) (now (log .exit)) at (r .at) (asSet (r .answer)) ⌝ }
+{
+    balancing::balance_get(device, tape, log, at)
 }
 
 fn sys_stat_reset(device: BQ769x0, flags: SysStat, tape: &[u8], log: &mut [u8], at: Cursor) -> Raw
