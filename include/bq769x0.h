@@ -1,6 +1,7 @@
 /*
  * A driver for the battery monitors BQ76920, BQ76930 and BQ76940 that is proved: setting one up by a job, alone or with a
- * reading of its cells after it; which cell of a pack sits on an input; and the seconds that a delay's code in a job stands for.
+ * reading of its cells after it; balancing a set of its inputs, and reading that set back; which cell of a pack sits on an input;
+ * and the seconds that a delay's code in a job stands for.
  *
  * All functions work on bytes in memory and touch nothing else: they read what the bus answered from a tape and write what they
  * sent into a log. Every number in a buffer stands with its high byte first. Millivolts are signed, in two's complement, and bq769x0_i32
@@ -9,16 +10,17 @@
  *   job   field 20, the device, and field 21, the configuration: 34 bytes; more are not looked at
  *           20 0004  X (5, 10 or 15), cells, 7-bit address, check bytes (0 or 1)
  *           21 0018  shunt in microohms, SCD A, OCD A, UV mV, OV mV, four bytes each; codes of SCD, OCD, UV, OV delay
+ *   device  field 20 alone: 7 bytes; more are not looked at, so a whole job does too
  *   tape  a field for each transfer: 01, two bytes of length, the bytes read (none for a write); 02 where the bus faults, the
  *         bytes delivered first
  *   log   gets a field for each transfer: 11, two bytes of length, the address and every byte sent; 12, 0004, the address, the
- *         register and two bytes of count. An init takes 52 bytes of it, 45 with check bytes, a cell reading 7 more; bytes that
- *         no field takes are left as they were
+ *         register and two bytes of count. An init takes 52 bytes of it, 45 with check bytes, a cell reading 7 more; a set of inputs
+ *         takes at most 15, and its reading back 7; bytes that no field takes are left as they were
  *   list  four bytes a cell, in mV, signed: FFFFFFFF is -1 mV; bytes past the count of cells are left as they were
  *   inputs  a byte a cell: the input, from 1, that the cell beside it in list sits on; bytes past the count are left as they were
  *   out   BQ769X0_OUT bytes, all written whatever the answer
  *
- * No two buffers overlap, but that job and tape, which are only read, may. A buffer of length 0 may have any pointer. Every length is a
+ * No two buffers overlap, but that job or device and tape, which are only read, may. A buffer of length 0 may have any pointer. Every length is a
  * count of bytes. docs/FORMAT.md has each buffer byte by byte, with an example.
  *
  * The library is for Linux on 64-bit x86, since the Rattle kit compiles for nothing else: a PC that replays or drives a board's traffic
@@ -36,7 +38,7 @@ extern "C" {
 #endif
 
 /* Counts up where a function, a layout or a number of this header changes; and the Rust crate whose answers these are. */
-#define BQ769X0_VERSION 3
+#define BQ769X0_VERSION 4
 #define BQ769X0_CRATE "0.3.1"
 
 /*
@@ -44,12 +46,14 @@ extern "C" {
  *    0 to  7  how many bytes of the tape are used
  *    8 to 15  how many bytes of the log are used
  *
- *             BQ769X0_OK                   any refusal
+ *             BQ769X0_OK after an init     any refusal
  *   16 to 19  the range: 0 lower, 1 upper  how many figures the refusal names: 0, 1 or 2
  *   20 to 23  SCD threshold in A           the first figure, 0 where there is none
  *   24 to 27  OCD threshold in A           the second figure, 0 where there is none
  *   28 to 31  UV threshold in mV, signed   0
  *   32 to 35  OV threshold in mV, signed   0
+ *
+ * Where bq769x0_balance_get is BQ769X0_OK, 16 to 19 are the set, and 20 to 35 are 0; where bq769x0_balance_set is, 16 to 35 are 0.
  */
 #define BQ769X0_OUT 36
 
@@ -62,6 +66,7 @@ enum bq769x0_place {
     BQ769X0_OCD_A = 24,
     BQ769X0_UV_MV = 28,
     BQ769X0_OV_MV = 32,
+    BQ769X0_SET = 16,
     BQ769X0_FIGURES = 16,
     BQ769X0_FIGURE_1 = 20,
     BQ769X0_FIGURE_2 = 24
@@ -107,12 +112,15 @@ enum bq769x0_refusal {
     BQ769X0_UNKNOWN_FLAGS = 18,       /* a status reset with bit 6 */
     BQ769X0_NO_ROOM = 19,             /* list or inputs is shorter than the count of cells */
     BQ769X0_UNKNOWN_RANGE = 20,       /* a code asked for range Unknown; no function gives it */
-    BQ769X0_NO_SUCH_INPUT = 21        /* no cell of the pack sits on that input: 0, a shorted one, or one over X */
+    BQ769X0_NO_SUCH_INPUT = 21,       /* no cell of the pack sits on that input: 0, a shorted one, or one over X */
+    BQ769X0_NOT_ON_DEVICE = 22,       /* the set has an input over X */
+    BQ769X0_NEIGHBOURS = 23,          /* the set has two neighbouring inputs of one block of five */
+    BQ769X0_TOO_MANY_CELLS = 24       /* the set has more inputs than the board's limit */
 };
 
 /* The name of what a function returned, as the Rust and this driver have it. */
 static inline const char *bq769x0_name(uint8_t number) {
-    if (number > BQ769X0_NO_SUCH_INPUT) return "no number of this driver";
+    if (number > BQ769X0_TOO_MANY_CELLS) return "no number of this driver";
     switch ((enum bq769x0_refusal)number) {
     case BQ769X0_OK: return "Ok";
     case BQ769X0_CRC_MISMATCH: return "CRCMismatch";
@@ -136,6 +144,9 @@ static inline const char *bq769x0_name(uint8_t number) {
     case BQ769X0_NO_ROOM: return "NoRoom";
     case BQ769X0_UNKNOWN_RANGE: return "UnknownRange";
     case BQ769X0_NO_SUCH_INPUT: return "NoSuchInput";
+    case BQ769X0_NOT_ON_DEVICE: return "NotOnDevice";
+    case BQ769X0_NEIGHBOURS: return "Neighbours";
+    case BQ769X0_TOO_MANY_CELLS: return "TooManyCells";
     }
     return "no number of this driver";
 }
@@ -149,6 +160,27 @@ uint8_t bq769x0_init(const uint8_t *job, size_t job_len, const uint8_t *tape, si
  * list_len are in bytes. out is as after bq769x0_init, the positions after the reading. */
 uint8_t bq769x0_init_wired(const uint8_t *job, size_t job_len, const uint8_t *tape, size_t tape_len, uint8_t *log, size_t log_len,
                            uint8_t *inputs, size_t inputs_len, uint8_t *list, size_t list_len, uint8_t out[BQ769X0_OUT]);
+
+/* Balances a set of inputs, with all others off, on the device of field 20: bit 0 of set is input 1, bit 14 input 15. limit is how many
+ * inputs the board lets balance at once. Refused ahead of any transfer: a device as in a job, then BQ769X0_NOT_ON_DEVICE,
+ * BQ769X0_NEIGHBOURS, BQ769X0_TOO_MANY_CELLS, in this order. Else registers 01 on, as many as the device has, are written by one
+ * transfer, and without check bytes read back.
+ *
+ * Neighbours are inputs, not cells: 1 and 2 are, 5 and 6 are of two blocks and are not. Where inputs are shorted, two cells that touch can
+ * sit on inputs that do not: with four cells in a block the upper two are on 3 and 5. Such a pair is not refused.
+ *
+ * For the board's designer: a transfer that is cut, by a fault or by a reset of the board, leaves none, some or all of these registers new,
+ * from 01 on, and the others as they were. Then no neighbours are on that were not on before, and an input that was off is on only if it is
+ * in set. But MORE INPUTS CAN BE ON THAN THE LIMIT, those of new registers beside those of old ones, until the same call, made again, is
+ * BQ769X0_OK. A board that does not bear this balances set 0 first, and the new set once that is BQ769X0_OK: then, cut or not, only
+ * inputs of the old set are on, and after it only inputs of the new one. */
+uint8_t bq769x0_balance_set(const uint8_t *device, size_t device_len, uint16_t set, uint8_t limit, const uint8_t *tape, size_t tape_len,
+                            uint8_t *log, size_t log_len, uint8_t out[BQ769X0_OUT]);
+
+/* The set that the device has on, by five bits of each of those registers, at BQ769X0_SET of out. It can have neighbours, or more inputs
+ * than a limit: the chip refuses nothing. */
+uint8_t bq769x0_balance_get(const uint8_t *device, size_t device_len, const uint8_t *tape, size_t tape_len, uint8_t *log, size_t log_len,
+                            uint8_t out[BQ769X0_OUT]);
 
 /* The cell, from 1, bottom of the pack first, that sits on an input of a device with X inputs (5, 10 or 15) and so many cells:
  * BQ769X0_BAD_DEVICE, BQ769X0_BAD_CELL_COUNT, BQ769X0_NO_SUCH_INPUT. */

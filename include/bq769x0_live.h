@@ -6,10 +6,10 @@
  * the call wants next: it is made on the bus, its answer takes the fault's place, and the next pass begins. Whether the fault was reached
  * is told by how far the tape is used, never by the number: with check bytes a read that faults is refused with 1.
  *
- * It is proved of the three functions (crates/live/src/lib.rt) that such passes make each transfer once, in the call's order, and end as
+ * It is proved of the five functions (crates/live/src/lib.rt) that such passes make each transfer once, in the call's order, and end as
  * the call does on the bus itself; that a pass which comes to the fault has left inputs and list as they were; and that an init takes at
- * most eight passes and a reading of the cells one more: for every bus whose answers are as long as was asked, or shorter where they
- * fault. This header, which makes the passes, is only tested (tests/c/live.c).
+ * most eight passes and a reading of the cells one more, a set of inputs three and its reading back two: for every bus whose answers are
+ * as long as was asked, or shorter where they fault. This header, which makes the passes, is only tested (tests/c/live.c).
  */
 #ifndef BQ769X0_LIVE_H
 #define BQ769X0_LIVE_H
@@ -67,17 +67,19 @@ static inline int bq769x0_live_transfer(const struct bq769x0_bus *bus, struct bq
     return 1;
 }
 
-/* Which of the three calls, with what it is given beside tape and log. */
-enum bq769x0_reading { BQ769X0_READS_NONE, BQ769X0_READS_WIRED, BQ769X0_READS_CELLS };
+/* Which of the calls, with what it is given beside tape and log. */
+enum bq769x0_calls { BQ769X0_INIT, BQ769X0_INIT_WIRED, BQ769X0_INIT_CELLS, BQ769X0_BALANCE_SET, BQ769X0_BALANCE_GET };
 
 struct bq769x0_live_call {
-    const uint8_t *job;
+    enum bq769x0_calls calls;
+    const uint8_t *job; /* or device */
     size_t job_len;
     uint8_t *inputs;
     size_t inputs_len;
     uint8_t *list;
     size_t list_len;
-    enum bq769x0_reading reading;
+    uint16_t set;
+    uint8_t limit;
 };
 
 /* A pass: the call on the tape so far with a fault behind it. */
@@ -86,12 +88,17 @@ static inline uint8_t bq769x0_live_pass(const struct bq769x0_live_call *call, st
     live->tape[live->tape_len] = 0x02;
     live->tape[live->tape_len + 1] = 0;
     live->tape[live->tape_len + 2] = 0;
-    if (call->reading == BQ769X0_READS_WIRED)
+    if (call->calls == BQ769X0_INIT_WIRED)
         return bq769x0_init_wired(call->job, call->job_len, live->tape, tape_len, live->log, sizeof live->log, call->inputs,
                                   call->inputs_len, call->list, call->list_len, out);
-    if (call->reading == BQ769X0_READS_CELLS)
+    if (call->calls == BQ769X0_INIT_CELLS)
         return bq769x0_init_cells(call->job, call->job_len, live->tape, tape_len, live->log, sizeof live->log, call->list, call->list_len,
                                   out);
+    if (call->calls == BQ769X0_BALANCE_SET)
+        return bq769x0_balance_set(call->job, call->job_len, call->set, call->limit, live->tape, tape_len, live->log, sizeof live->log,
+                                   out);
+    if (call->calls == BQ769X0_BALANCE_GET)
+        return bq769x0_balance_get(call->job, call->job_len, live->tape, tape_len, live->log, sizeof live->log, out);
     return bq769x0_init(call->job, call->job_len, live->tape, tape_len, live->log, sizeof live->log, out);
 }
 
@@ -107,24 +114,35 @@ static inline uint8_t bq769x0_live_passes(const struct bq769x0_live_call *call, 
     }
 }
 
-/* As bq769x0_init, bq769x0_init_wired and bq769x0_init_cells, with a bus in the place of tape and log; the millivolts in job, list and out
- * are signed as there. */
+/* As the functions of bq769x0.h, with a bus in the place of tape and log; the millivolts in job, list and out are signed as there. */
 static inline uint8_t bq769x0_live_init(const uint8_t *job, size_t job_len, const struct bq769x0_bus *bus, struct bq769x0_live *live,
                                         uint8_t out[BQ769X0_OUT]) {
-    struct bq769x0_live_call call = {job, job_len, NULL, 0, NULL, 0, BQ769X0_READS_NONE};
+    struct bq769x0_live_call call = {BQ769X0_INIT, job, job_len, NULL, 0, NULL, 0, 0, 0};
     return bq769x0_live_passes(&call, bus, live, out);
 }
 
 static inline uint8_t bq769x0_live_init_wired(const uint8_t *job, size_t job_len, const struct bq769x0_bus *bus, struct bq769x0_live *live,
                                               uint8_t *inputs, size_t inputs_len, uint8_t *list, size_t list_len,
                                               uint8_t out[BQ769X0_OUT]) {
-    struct bq769x0_live_call call = {job, job_len, inputs, inputs_len, list, list_len, BQ769X0_READS_WIRED};
+    struct bq769x0_live_call call = {BQ769X0_INIT_WIRED, job, job_len, inputs, inputs_len, list, list_len, 0, 0};
     return bq769x0_live_passes(&call, bus, live, out);
 }
 
 static inline uint8_t bq769x0_live_init_cells(const uint8_t *job, size_t job_len, const struct bq769x0_bus *bus, struct bq769x0_live *live,
                                               uint8_t *list, size_t list_len, uint8_t out[BQ769X0_OUT]) {
-    struct bq769x0_live_call call = {job, job_len, NULL, 0, list, list_len, BQ769X0_READS_CELLS};
+    struct bq769x0_live_call call = {BQ769X0_INIT_CELLS, job, job_len, NULL, 0, list, list_len, 0, 0};
+    return bq769x0_live_passes(&call, bus, live, out);
+}
+
+static inline uint8_t bq769x0_live_balance_set(const uint8_t *device, size_t device_len, uint16_t set, uint8_t limit,
+                                               const struct bq769x0_bus *bus, struct bq769x0_live *live, uint8_t out[BQ769X0_OUT]) {
+    struct bq769x0_live_call call = {BQ769X0_BALANCE_SET, device, device_len, NULL, 0, NULL, 0, set, limit};
+    return bq769x0_live_passes(&call, bus, live, out);
+}
+
+static inline uint8_t bq769x0_live_balance_get(const uint8_t *device, size_t device_len, const struct bq769x0_bus *bus,
+                                               struct bq769x0_live *live, uint8_t out[BQ769X0_OUT]) {
+    struct bq769x0_live_call call = {BQ769X0_BALANCE_GET, device, device_len, NULL, 0, NULL, 0, 0, 0};
     return bq769x0_live_passes(&call, bus, live, out);
 }
 

@@ -1,29 +1,10 @@
 /* The C boundary as firmware meets it: each call, with every byte of every buffer compared after it, guard bytes around each included. */
-#include "bq769x0.h"
+#include "lent.h"
 
-#include <stdio.h>
-#include <stdlib.h>
-#include <string.h>
-
-enum { GUARD = 16, MOST = 256, FIELDS = 8 };
+enum { FIELDS = 8 };
 
 /* Which of the three functions: without a reading, with one by the crate's list, with one by the wiring. */
 enum reading { NONE, CELLS, WIRED };
-
-/* A lent buffer, filled and guarded with bytes that no call writes by chance. */
-struct lent {
-    uint8_t bytes[GUARD + MOST + GUARD];
-    size_t len;
-};
-
-static uint8_t *at(struct lent *b) { return b->bytes + GUARD; }
-
-static void lend(struct lent *b, const uint8_t *bytes, size_t len) {
-    memset(b->bytes, 0xC3, sizeof b->bytes);
-    if (bytes != NULL)
-        memcpy(at(b), bytes, len);
-    b->len = len;
-}
 
 /* What a call is given, and what it must leave: answer, positions, five numbers, the log's and both lists' first bytes. */
 struct call {
@@ -34,37 +15,6 @@ struct call {
     uint32_t five[5];
     uint8_t log_bytes[MOST], inputs_bytes[MOST], list_bytes[MOST];
 };
-
-static unsigned long run;
-
-static void must(int holds, const struct call *c, const char *what) {
-    if (!holds) {
-        printf("c: %s: %s is not as it should be\n", c->name, what);
-        exit(1);
-    }
-}
-
-/* b is as it was lent but for its first used bytes, which are those given. */
-static void same(const struct call *c, const char *what, const struct lent *b, const struct lent *before, const uint8_t *bytes, size_t used) {
-    struct lent expected = *before;
-    memcpy(expected.bytes + GUARD, bytes, used);
-    must(memcmp(expected.bytes, b->bytes, sizeof b->bytes) == 0, c, what);
-}
-
-static void put(uint8_t *to, uint64_t n, int width) {
-    for (int i = 0; i < width; i++)
-        to[i] = (uint8_t)(n >> (8 * (width - 1 - i)));
-}
-
-static void expected_out(const struct call *c, uint8_t out[BQ769X0_OUT]) {
-    put(out, c->tape_used, 8);
-    put(out + 8, c->log_used, 8);
-    for (int i = 0; i < 5; i++)
-        put(out + 16 + 4 * i, c->five[i], 4);
-}
-
-/* A pointer for a lent buffer, or none where it is empty and none is asked for. */
-static uint8_t *lent_at(struct lent *b, int null) { return null && b->len == 0 ? NULL : at(b); }
 
 static uint8_t called(struct call *c, enum reading reading, int null) {
     const uint8_t *job = lent_at(&c->job, null), *tape = lent_at(&c->tape, null);
@@ -82,14 +32,14 @@ static uint8_t called(struct call *c, enum reading reading, int null) {
 static void made(struct call *c, enum reading reading, int null) {
     uint8_t out[BQ769X0_OUT];
     struct call before = *c;
-    must(called(c, reading, null) == c->number, c, "the number");
-    expected_out(c, out);
-    same(c, "job", &c->job, &before.job, out, 0);
-    same(c, "tape", &c->tape, &before.tape, out, 0);
-    same(c, "log", &c->log, &before.log, c->log_bytes, c->log_used);
-    same(c, "inputs", &c->inputs, &before.inputs, c->inputs_bytes, c->inputs_used);
-    same(c, "list", &c->list, &before.list, c->list_bytes, c->list_used);
-    same(c, "out", &c->out, &before.out, out, BQ769X0_OUT);
+    must(called(c, reading, null) == c->number, c->name, "the number");
+    laid(out, c->tape_used, c->log_used, c->five);
+    same(c->name, "job", &c->job, &before.job, out, 0);
+    same(c->name, "tape", &c->tape, &before.tape, out, 0);
+    same(c->name, "log", &c->log, &before.log, c->log_bytes, c->log_used);
+    same(c->name, "inputs", &c->inputs, &before.inputs, c->inputs_bytes, c->inputs_used);
+    same(c->name, "list", &c->list, &before.list, c->list_bytes, c->list_used);
+    same(c->name, "out", &c->out, &before.out, out, BQ769X0_OUT);
     run++;
 }
 
@@ -200,8 +150,8 @@ static void below_zero(enum reading reading) {
     c.five[3] = 2796, c.five[4] = 4200;
     cells_read(&c, reading, all_inputs, volts, 5);
     made(&c, reading, 0);
-    must(memcmp(at(&c.list) + 16, last, sizeof last) == 0, &c, "the last cell");
-    must(bq769x0_millivolts(at(&c.list), 4) == -1, &c, "the last cell's millivolts");
+    must(memcmp(at(&c.list) + 16, last, sizeof last) == 0, c.name, "the last cell");
+    must(bq769x0_millivolts(at(&c.list), 4) == -1, c.name, "the last cell's millivolts");
 }
 
 /* Every length from 0 up to one short, of the job, the tape and the log; with no pointer where it is 0 too. */
@@ -280,8 +230,8 @@ static void on_input(const struct call *c, int x, int cells, int input) {
     uint8_t should = 0, number = cell_on(x, cells, input, &should);
     lend(&before, NULL, 1);
     cell = before;
-    must(bq769x0_cell_on((uint8_t)x, (uint8_t)cells, (uint8_t)input, at(&cell)) == number, c, "the number");
-    same(c, "cell", &cell, &before, &should, number == BQ769X0_OK);
+    must(bq769x0_cell_on((uint8_t)x, (uint8_t)cells, (uint8_t)input, at(&cell)) == number, c->name, "the number");
+    same(c->name, "cell", &cell, &before, &should, number == BQ769X0_OK);
     run++;
 }
 
@@ -304,8 +254,8 @@ static void every_code(const char *name, question *asked, const uint8_t seconds[
         struct lent lent, before;
         lend(&before, NULL, 1);
         lent = before;
-        must(asked((uint8_t)code, at(&lent)) == (code < 4 ? BQ769X0_OK : BQ769X0_BAD_TAPE), &c, "the number");
-        same(&c, "seconds", &lent, &before, seconds + code % 4, code < 4);
+        must(asked((uint8_t)code, at(&lent)) == (code < 4 ? BQ769X0_OK : BQ769X0_BAD_TAPE), c.name, "the number");
+        same(c.name, "seconds", &lent, &before, seconds + code % 4, code < 4);
         run++;
     }
 }
@@ -331,7 +281,7 @@ static void figures(void) {
         refused(&c, BQ769X0_UV_UNOBTAINABLE, 2);
         c.five[0] = 2, c.five[1] = 1495, c.five[2] = 2984;
         made(&c, NONE, 0);
-        must(bq769x0_i32(at(&c.out) + BQ769X0_FIGURE_2) == 2984, &c, "the highest UV");
+        must(bq769x0_i32(at(&c.out) + BQ769X0_FIGURE_2) == 2984, c.name, "the highest UV");
     }
     c = example("another byte in 08", NONE);
     at(&c.tape)[5 + 4 + 3 + 3 + 2] ^= 1;
@@ -366,17 +316,17 @@ static void no_pointers(enum reading reading) {
 static void readers(void) {
     static const uint8_t bytes[] = {0x01, 0x23, 0x45, 0x67, 0x89, 0xAB, 0xCD, 0xEF};
     static const uint8_t list[] = {0, 0, 0x0B, 0xB9, 0xFF, 0xFF, 0xFF, 0xFF, 0x7F, 0xFF, 0xFF, 0xFF, 0x80, 0, 0, 0};
-    static const struct call none = {.name = "the header's readers"};
-    must(bq769x0_u32(bytes) == 0x01234567 && bq769x0_u64(bytes) == 0x0123456789ABCDEF, &none, "a number");
-    must(bq769x0_millivolts(list, 0) == 3001 && bq769x0_millivolts(list, 1) == -1, &none, "a cell's millivolts");
-    must(bq769x0_millivolts(list, 2) == INT32_MAX && bq769x0_millivolts(list, 3) == INT32_MIN, &none, "the farthest millivolts");
-    must(bq769x0_i32(list) == 3001 && bq769x0_i32(list + 4) == -1, &none, "the millivolts at a place");
-    must(strcmp(bq769x0_name(BQ769X0_OK), "Ok") == 0, &none, "the name of 0");
-    must(strcmp(bq769x0_name(BQ769X0_BAD_TAPE), "BadTape") == 0, &none, "the name of 15");
+    static const char *const none = "the header's readers";
+    must(bq769x0_u32(bytes) == 0x01234567 && bq769x0_u64(bytes) == 0x0123456789ABCDEF, none, "a number");
+    must(bq769x0_millivolts(list, 0) == 3001 && bq769x0_millivolts(list, 1) == -1, none, "a cell's millivolts");
+    must(bq769x0_millivolts(list, 2) == INT32_MAX && bq769x0_millivolts(list, 3) == INT32_MIN, none, "the farthest millivolts");
+    must(bq769x0_i32(list) == 3001 && bq769x0_i32(list + 4) == -1, none, "the millivolts at a place");
+    must(strcmp(bq769x0_name(BQ769X0_OK), "Ok") == 0, none, "the name of 0");
+    must(strcmp(bq769x0_name(BQ769X0_BAD_TAPE), "BadTape") == 0, none, "the name of 15");
     for (int a = 0; a <= UINT8_MAX; a++) {
-        int named = a <= BQ769X0_NO_SUCH_INPUT;
-        must(named == (strcmp(bq769x0_name((uint8_t)a), bq769x0_name(UINT8_MAX)) != 0), &none, "a name, or none");
-        for (int b = 0; named && b < a; b++) must(strcmp(bq769x0_name((uint8_t)a), bq769x0_name((uint8_t)b)) != 0, &none, "a name of its own");
+        int named = a <= BQ769X0_TOO_MANY_CELLS;
+        must(named == (strcmp(bq769x0_name((uint8_t)a), bq769x0_name(UINT8_MAX)) != 0), none, "a name, or none");
+        for (int b = 0; named && b < a; b++) must(strcmp(bq769x0_name((uint8_t)a), bq769x0_name((uint8_t)b)) != 0, none, "a name of its own");
     }
 }
 
@@ -396,6 +346,5 @@ int main(void) {
     figures();
     cells_on();
     seconds_of_codes();
-    printf("c: %lu calls as they should be\n", run);
-    return 0;
+    return tried("boundary");
 }

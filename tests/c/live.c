@@ -1,6 +1,7 @@
-/* The live header against a chip made here, as C and as C++: both builds, each size and reading, no fault and a fault at each transfer
- * after each number of bytes. A call's answer, lists and log must be those of the same call on the tape that the chip's answers made. */
+/* The live header against a chip made here, as C and as C++: both builds, each size and call, no fault and a fault at each transfer after each
+ * number of bytes. A call's answer, lists and log must be those of the same call on the tape that the chip's answers made. */
 #include "bq769x0_live.h"
+#include "crc.h"
 
 #include <stdio.h>
 #include <stdlib.h>
@@ -23,12 +24,6 @@ static void must(int holds, const char *what) {
         printf("live: %s is not as it should be\n", what);
         exit(1);
     }
-}
-
-static uint8_t crc(uint8_t sum, uint8_t byte) {
-    sum ^= byte;
-    for (int i = 0; i < 8; i++) sum = (uint8_t)(sum << 1 ^ (sum & 0x80 ? 0x07 : 0));
-    return sum;
 }
 
 /* The register and its data bytes, each with its check byte where the chip has them; a byte cut off is not stored. */
@@ -93,56 +88,95 @@ static struct outcome blank(void) {
     return o;
 }
 
+/* Inputs 1, 3, 6 and 12, as far as there are so many, where 2, 8 and 15 were on; and the limit that they keep. */
+static uint16_t set_of(int x) { return (uint16_t)(0x0825 & ((1 << x) - 1)); }
+static const uint8_t new_regs[3] = {0x05, 0x01, 0x02}, old_regs[3] = {0x02, 0x04, 0x10};
+
 /* The call on the chip; and on the tape that it left. */
-static struct outcome on_bus(const uint8_t *job, int reading, size_t cells, const struct bq769x0_bus *bus, struct bq769x0_live *live) {
+static struct outcome on_bus(const uint8_t *job, enum bq769x0_calls calls, size_t x, const struct bq769x0_bus *bus,
+                             struct bq769x0_live *live) {
     struct outcome o = blank();
-    if (reading == 0)
-        o.number = bq769x0_live_init(job, 34, bus, live, o.out);
-    else if (reading == 1)
-        o.number = bq769x0_live_init_wired(job, 34, bus, live, o.inputs, cells, o.list, 4 * cells, o.out);
-    else
-        o.number = bq769x0_live_init_cells(job, 34, bus, live, o.list, 4 * cells, o.out);
+    switch (calls) {
+    case BQ769X0_INIT: o.number = bq769x0_live_init(job, 34, bus, live, o.out); break;
+    case BQ769X0_INIT_WIRED: o.number = bq769x0_live_init_wired(job, 34, bus, live, o.inputs, x, o.list, 4 * x, o.out); break;
+    case BQ769X0_INIT_CELLS: o.number = bq769x0_live_init_cells(job, 34, bus, live, o.list, 4 * x, o.out); break;
+    case BQ769X0_BALANCE_SET: o.number = bq769x0_live_balance_set(job, 7, set_of((int)x), 4, bus, live, o.out); break;
+    case BQ769X0_BALANCE_GET: o.number = bq769x0_live_balance_get(job, 7, bus, live, o.out); break;
+    }
     memcpy(o.log, live->log, live->log_len);
     return o;
 }
 
-static struct outcome on_tape(const uint8_t *job, int reading, size_t cells, const struct bq769x0_live *live) {
+static struct outcome on_tape(const uint8_t *job, enum bq769x0_calls calls, size_t x, const struct bq769x0_live *live) {
     struct outcome o = blank();
-    if (reading == 0)
-        o.number = bq769x0_init(job, 34, live->tape, live->tape_len, o.log, sizeof o.log, o.out);
-    else if (reading == 1)
-        o.number = bq769x0_init_wired(job, 34, live->tape, live->tape_len, o.log, sizeof o.log, o.inputs, cells, o.list, 4 * cells, o.out);
-    else
-        o.number = bq769x0_init_cells(job, 34, live->tape, live->tape_len, o.log, sizeof o.log, o.list, 4 * cells, o.out);
+    const uint8_t *tape = live->tape;
+    size_t tape_len = live->tape_len, log_len = sizeof o.log;
+    switch (calls) {
+    case BQ769X0_INIT: o.number = bq769x0_init(job, 34, tape, tape_len, o.log, log_len, o.out); break;
+    case BQ769X0_INIT_WIRED:
+        o.number = bq769x0_init_wired(job, 34, tape, tape_len, o.log, log_len, o.inputs, x, o.list, 4 * x, o.out);
+        break;
+    case BQ769X0_INIT_CELLS: o.number = bq769x0_init_cells(job, 34, tape, tape_len, o.log, log_len, o.list, 4 * x, o.out); break;
+    case BQ769X0_BALANCE_SET: o.number = bq769x0_balance_set(job, 7, set_of((int)x), 4, tape, tape_len, o.log, log_len, o.out); break;
+    case BQ769X0_BALANCE_GET: o.number = bq769x0_balance_get(job, 7, tape, tape_len, o.log, log_len, o.out); break;
+    }
     return o;
 }
 
-/* One call: as on its tape; with no fault accepted, the chip set up and the cells read; with one refused, at that transfer. */
-static void call(int x, int check, int reading, unsigned fails_at, size_t after) {
+/* The transfers of a call that no fault ends. */
+static unsigned transfers_of(enum bq769x0_calls calls, int check) {
+    static const unsigned plain[] = {7, 8, 8, 2, 1}, checked[] = {5, 6, 6, 1, 1};
+    return (check ? checked : plain)[calls];
+}
+
+/* What a call without a fault has done. */
+static void done(enum bq769x0_calls calls, int x, const struct chip *chip, const struct outcome *made) {
+    static const uint8_t six[6] = {0x13, 0x55, 0x50, 0xB6, 0xCF, 0x19};
+    size_t count = (size_t)x / 5;
+    if (calls == BQ769X0_BALANCE_SET) {
+        must(memcmp(chip->regs + 1, new_regs, count) == 0, "the chip after a set");
+    } else if (calls == BQ769X0_BALANCE_GET) {
+        must(bq769x0_u32(made->out + BQ769X0_SET) == (0x4082u & ((1u << x) - 1)), "the set read back");
+    } else {
+        must(memcmp(chip->regs + 6, six, sizeof six) == 0 && chip->regs[5] == 0x43, "the chip after an init");
+    }
+    for (int i = 0; calls == BQ769X0_INIT_WIRED && i < x; i++)
+        must(made->inputs[i] == i + 1 && bq769x0_millivolts(made->list, (size_t)i) == volts_of(i), "a cell");
+    for (size_t i = calls == BQ769X0_BALANCE_SET ? count : 0; i < 3; i++) must(chip->regs[1 + i] == old_regs[i], "another register");
+}
+
+/* And one that a fault has cut: of the registers of a set a first part is new. */
+static void cut(enum bq769x0_calls calls, int x, const struct chip *chip) {
+    size_t fresh = 0;
+    while (calls == BQ769X0_BALANCE_SET && fresh < (size_t)x / 5 && chip->regs[1 + fresh] == new_regs[fresh]) fresh++;
+    must(memcmp(chip->regs + 1 + fresh, old_regs + fresh, 3 - fresh) == 0, "the registers above the new ones");
+}
+
+/* One call: as on its tape; with no fault accepted and done; with one refused, at that transfer. */
+static void call(int x, int check, enum bq769x0_calls calls, unsigned fails_at, size_t after) {
     const uint8_t job[34] = {0x20, 0, 4, (uint8_t)x, (uint8_t)x, ADDRESS, (uint8_t)check, 0x21, 0, 24, 0, 0, 3, 0xE8, 0, 0, 0, 50,
                              0,    0, 0, 20, 0, 0, 0x0A, 0xF0, 0, 0, 0x10, 0x68, 2, 5, 1, 1};
-    static const uint8_t six[6] = {0x13, 0x55, 0x50, 0xB6, 0xCF, 0x19};
     struct chip chip = chip_of(check);
     struct bq769x0_live live;
     struct outcome made, again;
-    unsigned transfers = (check ? 5u : 7u) + (reading != 0);
+    unsigned transfers = transfers_of(calls, check);
+    memcpy(chip.regs + 1, old_regs, sizeof old_regs);
     chip.fails_at = fails_at;
     chip.after = after;
     {
         const struct bq769x0_bus bus = {&chip, chip_write, chip_read};
-        made = on_bus(job, reading, (size_t)x, &bus, &live);
+        made = on_bus(job, calls, (size_t)x, &bus, &live);
     }
-    again = on_tape(job, reading, (size_t)x, &live);
+    again = on_tape(job, calls, (size_t)x, &live);
     must(memcmp(&made, &again, sizeof made) == 0, "a call on the bus, beside the same on its tape,");
     must(bq769x0_u64(made.out + BQ769X0_TAPE_USED) == live.tape_len, "the tape's length");
     must(bq769x0_u64(made.out + BQ769X0_LOG_USED) == live.log_len, "the log's length");
     if (fails_at == 0 || fails_at > transfers) {
         must(made.number == BQ769X0_OK && chip.made == transfers, "a call without a fault");
-        must(memcmp(chip.regs + 6, six, sizeof six) == 0 && chip.regs[5] == 0x43, "the chip after an init");
-        for (int i = 0; reading == 1 && i < x; i++)
-            must(made.inputs[i] == i + 1 && bq769x0_millivolts(made.list, (size_t)i) == volts_of(i), "a cell");
+        done(calls, x, &chip, &made);
     } else {
         must((made.number == BQ769X0_I2C_ERROR || made.number == BQ769X0_CRC_MISMATCH) && chip.made == fails_at, "a call with a fault");
+        cut(calls, x, &chip);
     }
     tried++;
 }
@@ -150,10 +184,10 @@ static void call(int x, int check, int reading, unsigned fails_at, size_t after)
 int main(void) {
     for (int x = 5; x <= FULL; x += 5)
         for (int check = 0; check <= 1; check++)
-            for (int reading = 0; reading <= 2; reading++) {
-                call(x, check, reading, 0, 0);
+            for (int calls = BQ769X0_INIT; calls <= BQ769X0_BALANCE_GET; calls++) {
+                call(x, check, (enum bq769x0_calls)calls, 0, 0);
                 for (unsigned at = 1; at <= LAST + 1; at++)
-                    for (size_t after = 0; after <= 61; after++) call(x, check, reading, at, after);
+                    for (size_t after = 0; after <= 61; after++) call(x, check, (enum bq769x0_calls)calls, at, after);
             }
     printf("live: %lu calls as they should be\n", tried);
     return 0;

@@ -15,6 +15,13 @@ mod bq769x0 {
                 job: *const u8, job_len: usize, tape: *const u8, tape_len: usize, log: *mut u8, log_len: usize,
                 inputs: *mut u8, inputs_len: usize, list: *mut u8, list_len: usize, out: *mut u8,
             ) -> u8;
+            pub fn bq769x0_balance_set(
+                device: *const u8, device_len: usize, set: u16, limit: u8, tape: *const u8, tape_len: usize, log: *mut u8, log_len: usize,
+                out: *mut u8,
+            ) -> u8;
+            pub fn bq769x0_balance_get(
+                device: *const u8, device_len: usize, tape: *const u8, tape_len: usize, log: *mut u8, log_len: usize, out: *mut u8,
+            ) -> u8;
             pub fn bq769x0_cell_on(x: u8, cells: u8, input: u8, cell: *mut u8) -> u8;
             pub fn bq769x0_uv_seconds(code: u8, seconds: *mut u8) -> u8;
             pub fn bq769x0_ov_seconds(code: u8, seconds: *mut u8) -> u8;
@@ -42,6 +49,22 @@ mod bq769x0 {
             linked::bq769x0_init_wired(
                 job.as_ptr(), job.len(), tape.as_ptr(), tape.len(), log.as_mut_ptr(), log.len(),
                 inputs.as_mut_ptr(), inputs.len(), list.as_mut_ptr(), list.len(), out.as_mut_ptr(),
+            )
+        }
+    }
+
+    pub fn balance_set(device: &[u8], set: u16, limit: u8, tape: &[u8], log: &mut [u8], out: &mut [u8; OUT]) -> u8 {
+        unsafe {
+            linked::bq769x0_balance_set(
+                device.as_ptr(), device.len(), set, limit, tape.as_ptr(), tape.len(), log.as_mut_ptr(), log.len(), out.as_mut_ptr(),
+            )
+        }
+    }
+
+    pub fn balance_get(device: &[u8], tape: &[u8], log: &mut [u8], out: &mut [u8; OUT]) -> u8 {
+        unsafe {
+            linked::bq769x0_balance_get(
+                device.as_ptr(), device.len(), tape.as_ptr(), tape.len(), log.as_mut_ptr(), log.len(), out.as_mut_ptr(),
             )
         }
     }
@@ -136,6 +159,17 @@ fn over(bytes: &[u8], len: usize) -> Vec<u8> {
 /// The sizes of what is lent: log, inputs, list.
 const ROOM: [usize; 3] = [80, 9, 24];
 
+/// What every call leaves: its number, the bytes of out, and the log with what it had behind its fields.
+fn compare(name: &str, number: u8, out: &[u8; bq769x0::OUT], log: &[u8], left: &Left) {
+    let mut expected = Vec::new();
+    expected.extend((left.tape_used as u64).to_be_bytes());
+    expected.extend((left.log.len() as u64).to_be_bytes());
+    expected.extend(left.five.iter().flat_map(|n| n.to_be_bytes()));
+    assert_eq!(number, left.number, "{name}: the number");
+    assert_eq!(out.to_vec(), expected, "{name}: out");
+    assert_eq!(log, over(&left.log, log.len()), "{name}: the log");
+}
+
 fn check(name: &str, reading: Reading, job: &[u8], tape: &[u8], room: [usize; 3], left: Left) -> u32 {
     let [mut log, mut inputs, mut list] = room.map(|len| vec![FILL; len]);
     let mut out = [FILL; bq769x0::OUT];
@@ -144,13 +178,7 @@ fn check(name: &str, reading: Reading, job: &[u8], tape: &[u8], room: [usize; 3]
         Cells => bq769x0::init_cells(job, tape, &mut log, &mut list, &mut out),
         Wired => bq769x0::init_wired(job, tape, &mut log, &mut inputs, &mut list, &mut out),
     };
-    let mut expected = Vec::new();
-    expected.extend((left.tape_used as u64).to_be_bytes());
-    expected.extend((left.log.len() as u64).to_be_bytes());
-    expected.extend(left.five.iter().flat_map(|n| n.to_be_bytes()));
-    assert_eq!(number, left.number, "{name}: the number");
-    assert_eq!(out.to_vec(), expected, "{name}: out");
-    assert_eq!(log, over(&left.log, room[0]), "{name}: the log");
+    compare(name, number, &out, &log, &left);
     assert_eq!(inputs, over(&left.inputs, room[1]), "{name}: the inputs");
     assert_eq!(bq769x0::millivolts(&list, left.list.len()), left.list, "{name}: the millivolts");
     let cells: Vec<u8> = left.list.iter().flat_map(|mv| mv.to_be_bytes()).collect();
@@ -217,6 +245,53 @@ fn below_zero(reading: Reading) -> u32 {
     check("a cell below zero", reading, &JOB, &tape, ROOM, Left { five: [0, 56, 22, 2796, 4200], list, ..accepted(reading) })
 }
 
+const DEVICE: [u8; 7] = [0x20, 0, 4, 15, 15, 8, 0];
+
+/// A set, or where there is none its reading back, of a BQ76940 without check bytes.
+fn balance(name: &str, set: Option<(u16, u8)>, device: &[u8], tape: &[u8], room: usize, left: Left) -> u32 {
+    let (mut log, mut out) = (vec![FILL; room], [FILL; bq769x0::OUT]);
+    let number = match set {
+        Some((set, limit)) => bq769x0::balance_set(device, set, limit, tape, &mut log, &mut out),
+        Option::None => bq769x0::balance_get(device, tape, &mut log, &mut out),
+    };
+    compare(name, number, &out, &log, &left);
+    1
+}
+
+/// Inputs 1, 7 and 15 set and read back, refused by each rule and each short buffer.
+fn balancing() -> u32 {
+    const SENT: [u8; 8] = [0x11, 0, 5, 8, 1, 0x01, 0x02, 0x10];
+    const READ: [u8; 7] = [0x12, 0, 4, 8, 1, 0, 3];
+    let answers = [1, 0, 0, 1, 0, 3, 0x01, 0x02, 0x10];
+    let log = [SENT.to_vec(), READ.to_vec()];
+    let set = Some((0x4041, 3));
+    let left = |number, tape_used, log: &[Vec<u8>], five| Left { number, tape_used, log: log.concat(), five, inputs: vec![], list: vec![] };
+    let none = |number| left(number, 0, &[], [0; 5]);
+    let mut run = balance("a set", set, &DEVICE, &answers, 15, left(0, 9, &log, [0; 5]));
+    run += balance("a set read back", Option::None, &DEVICE, &answers[3..], 7, left(0, 6, &log[1..], [0x4041, 0, 0, 0, 0]));
+    run += balance("an upper bit read", Option::None, &DEVICE, &[1, 0, 3, 0xE1, 0x22, 0x10], 7, left(0, 6, &log[1..], [0x4041, 0, 0, 0, 0]));
+    run += balance("another byte in 02", set, &DEVICE, &[1, 0, 0, 1, 0, 3, 1, 3, 0x10], 15, left(5, 9, &log, [1, 2, 0, 0, 0]));
+    for (name, asked, number) in [("input 16", (0x8000, 9), 22), ("1 and 2", (0x0003, 9), 23), ("three for two", (0x4041, 2), 24)] {
+        run += balance(name, Some(asked), &DEVICE, &answers, 15, none(number));
+    }
+    run += balance("input 6 of five", Some((0x0020, 9)), &[0x20, 0, 4, 5, 5, 8, 0], &answers, 15, none(22));
+    run += balance("no such size", set, &[0x20, 0, 4, 6, 6, 8, 0], &answers, 15, none(9));
+    for n in 0..DEVICE.len() {
+        run += balance("a short device", set, &DEVICE[..n], &answers, 15, none(15));
+        run += balance("a short device", Option::None, &DEVICE[..n], &answers[3..], 7, none(15));
+    }
+    for n in 0..answers.len() {
+        let (fields, end) = whole([3, 6].into_iter(), n);
+        let number = if n == end { 16 } else { 15 };
+        run += balance("a short tape", set, &DEVICE, &answers[..n], 15, left(number, end, &log[..fields], [0; 5]));
+    }
+    for n in 0..15 {
+        let (fields, _) = whole([8, 7].into_iter(), n);
+        run += balance("a short log", set, &DEVICE, &answers, n, left(17, 3 * fields, &log[..fields], [0; 5]));
+    }
+    run
+}
+
 /// The cell on each input of a pack, and what the packs that are none answer.
 fn cells_on() -> u32 {
     let seven = [1, 2, 3, 5, 6, 7, 10].into_iter().zip(1..).map(|(input, cell)| ([10, 7, input], 0, [cell]));
@@ -245,6 +320,6 @@ fn seconds() -> u32 {
 
 fn main() {
     let readings = every(None) + every(Cells) + every(Wired) + short_lists() + four_cells() + below_zero(Cells) + below_zero(Wired);
-    let run = readings + cells_on() + seconds();
+    let run = readings + balancing() + cells_on() + seconds();
     println!("rust: {run} calls as they should be");
 }

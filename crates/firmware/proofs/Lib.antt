@@ -1,4 +1,5 @@
 pub mod Agree
 pub mod Ranged
+mod ByDevice
 mod Reading
 pub mod Positions

@@ -1,4 +1,4 @@
--- The two positions, read back from their eight bytes of out.
+-- The two positions and the five numbers, read back from their bytes of out.
 -- Assumes nothing.
 use mathlib.Core.Path.{_≡_, ap₂, _∙_}
 use Prim.Native.Nat.{ℕ, _/_, _%_}
@@ -8,7 +8,7 @@ use Rattle.job.specs.Jobs.{numberAt}
 use Rattle.plan.specs.declared.answer.InitNumbers.{InitNumbers}
 use Rattle.layout.specs.Layout.{laid}
 use Rattle.bus.specs.declared.Cursor.{Cursor}
-use Rattle.firmware.specs.Handed.{tapeUsed, logUsed}
+use Rattle.firmware.specs.Handed.{tapeUsed, logUsed, numbersIn}
 
 whole : (n : ℕ) → word8 (numberAt (eight n) 0) (numberAt (eight n) 4) ≡ n
 unfolding eight four
@@ -22,3 +22,15 @@ module _ (at : Cursor) (numbers : InitNumbers) where
   pub log-position : logUsed (laid at numbers) ≡ at .log
   unfolding laid eight four
   log-position = whole (at .log)
+
+  pub numbers-back : numbersIn (laid at numbers) ≡ numbers
+  unfolding laid eight four
+  numbers-back =
+      let back : (n : ℕ) → numberAt (four n) 0 ≡ n = word4-four in
+      λ i. record {
+        0 = back (numbers .0) i;
+        1 = back (numbers .1) i;
+        2 = back (numbers .2) i;
+        3 = back (numbers .3) i;
+        4 = back (numbers .4) i;
+      }

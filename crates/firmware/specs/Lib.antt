@@ -1,4 +1,5 @@
 pub mod Handed
+pub mod JobBalance
 pub mod JobCells
 pub mod JobWired
 pub mod Found

@@ -1,11 +1,12 @@
-// For C: setting up, by a job, a tape and a log, with a number and 36 bytes out; and three questions that one byte answers.
+// For C: setting up and balancing, by a job, a tape and a log, with a number and 36 bytes out; and three questions that one byte answers.
 ghost use mathlib.Core.Path.{_≡_};
 ghost use Rattle.bus.specs.Transfers.{start};
 ghost use Rattle.bus.specs.Programs.{onTape};
 ghost use Rattle.bus.specs.Lent.{lentBus, does};
 ghost use Rattle.plan.specs.Plan.{asInit};
 ghost use Rattle.job_setup.specs.JobInit.{jobInit};
-ghost use Rattle.firmware.specs.Handed.{handed, asC};
+ghost use Rattle.firmware.specs.Handed.{handed, asC, asNumber, asDone};
+ghost use Rattle.firmware.specs.JobBalance.{jobBalanceSet, jobBalanceGet};
 ghost use Rattle.firmware.specs.JobCells.{listed, jobCells, asList};
 ghost use Rattle.firmware.specs.JobWired.{beside, jobWired, handedBoth, asBoth};
 ghost use Rattle.firmware.specs.Found.{found, foundFor};
@@ -16,6 +17,8 @@ use crate::byte::store_seconds;
 use crate::crate_list::read_cells;
 use crate::wired::read_wired;
 use bq769x0::BQ769x0;
+use bus::link::RawAnswer;
+use commands::balancing::SetAnswer;
 use job::seconds;
 use layout::lay_out;
 use plan::InitAnswer;
@@ -23,9 +26,11 @@ use setup::left::Init;
 use wiring::questions;
 use wiring::questions::CellAnswer;
 
+mod balancing;
 mod byte;
 mod crate_list;
 mod list;
+mod told;
 mod wired;
 
 // For C: the number, 0 where accepted, and the 36 bytes in out.
@@ -115,6 +120,48 @@ pub extern "C" fn bq769x0_init_wired(
     let at = done.at;
     lay_out(out, at, answer.in_numbers());
     answer.number()
+}
+
+// For C: a set of inputs balanced, for the device in field 20, on a board with this limit: the number, and the 36 bytes in out.
+#[no_mangle]
+pub extern "C" fn bq769x0_balance_set(
+    device: &[u8],
+    set: u16,
+    limit: u8,
+    tape: &[u8],
+    log: &mut [u8],
+    out: &mut [u8; 36],
+) -> u8
+    ensures { λ r. ⌜ handed r (now (out .exit)) (now (log .exit))
+        ≡ asDone (onTape (jobBalanceSet (now (device .entry)) set limit) (lentBus tape log start)) ⌝ }
+{
+    let done = balancing::set(device, set, limit, tape, log);
+    let answer = done.answer;
+    let at = done.at;
+    match answer {
+        RawAnswer::Done => told::accept(0, at, out),
+        RawAnswer::Refused(e) => told::refuse(e, at, out),
+    }
+}
+
+// For C: the set that the device has on, first of the five numbers in out.
+#[no_mangle]
+pub extern "C" fn bq769x0_balance_get(
+    device: &[u8],
+    tape: &[u8],
+    log: &mut [u8],
+    out: &mut [u8; 36],
+) -> u8
+    ensures { λ r. ⌜ handed r (now (out .exit)) (now (log .exit))
+        ≡ asNumber (onTape (jobBalanceGet (now (device .entry))) (lentBus tape log start)) ⌝ }
+{
+    let read = balancing::get(device, tape, log);
+    let answer = read.answer;
+    let at = read.at;
+    match answer {
+        SetAnswer::Set(set) => told::accept(set as u32, at, out),
+        SetAnswer::Refused(e) => told::refuse(e, at, out),
+    }
 }
 
 // For C: the number, and the cell on an input of a pack, which a refusal leaves as it was.

@@ -11,7 +11,8 @@ use Rattle.bus.specs.Decoders.{Fitting}
 use Rattle.chip.specs.Devices.{Reached, reached}
 use Rattle.chip.specs.Live.{Used, andFault, Passes, Goes}
 use Rattle.job_setup.specs.JobInit.{jobInit}
-use Rattle.firmware.specs.Handed.{Handed, asC, tapeUsed, logUsed}
+use Rattle.firmware.specs.Handed.{Handed, asC, asNumber, asDone, tapeUsed, logUsed}
+use Rattle.firmware.specs.JobBalance.{jobBalanceSet, jobBalanceGet}
 use Rattle.firmware.specs.JobCells.{HandedList, jobCells, asList}
 use Rattle.firmware.specs.JobWired.{HandedBoth, jobWired, asBoth}
 
@@ -42,7 +43,7 @@ module _ {A O : Type 0} (p : Prog A) (given : Ran A → O) (used : O → Used) (
 abbrev pub usedOf : Handed → Used
 usedOf h = record { tape = tapeUsed (h .out); log = logUsed (h .out); bytes = h .log }
 
--- ---- the three calls: in at most so many passes, with so many bytes of log; the lists stay as they were until the last pass
+-- ---- the calls: in at most so many passes, with so many bytes of log; the lists stay as they were until the last pass
 abbrev pub InitLive : List ℕ → List ℕ → List ℕ → Handed → Type 0
 InitLive job = OnEveryBus (jobInit job) asC usedOf (λ h. Done) 8 52
 
@@ -53,3 +54,9 @@ abbrev pub WiredLive : List ℕ → List ℕ → List ℕ → List ℕ → List 
 WiredLive job inputs list =
     OnEveryBus (jobWired job inputs list) asBoth (λ o. usedOf (o .handed .handed))
     (λ o. (o .inputs ≡ inputs) × (o .handed .list ≡ list)) 9 59
+
+abbrev pub SetLive : List ℕ → ℕ → ℕ → List ℕ → List ℕ → Handed → Type 0
+SetLive device set limit = OnEveryBus (jobBalanceSet device set limit) asDone usedOf (λ h. Done) 3 15
+
+abbrev pub GetLive : List ℕ → List ℕ → List ℕ → Handed → Type 0
+GetLive device = OnEveryBus (jobBalanceGet device) asNumber usedOf (λ h. Done) 2 7

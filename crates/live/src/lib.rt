@@ -2,7 +2,7 @@
 // contract. Nothing calls them: they are there so that it is held to the code, on every input.
 ghost use Rattle.firmware.specs.Handed.{handed};
 ghost use Rattle.firmware.specs.JobWired.{handedBoth};
-ghost use Rattle.live.specs.Passes.{InitLive, CellsLive, WiredLive};
+ghost use Rattle.live.specs.Passes.{InitLive, CellsLive, WiredLive, SetLive, GetLive};
 
 fn init(job: &[u8], tape: &[u8], log: &mut [u8], out: &mut [u8; 36]) -> u8
     ensures { λ r. ⌜ InitLive (now (job .entry)) (now (tape .entry)) (now (log .entry))
@@ -30,4 +30,25 @@ fn init_wired(
         (handedBoth (handed r (now (out .exit)) (now (log .exit))) (now (inputs .exit)) (now (list .exit))) ⌝ }
 {
     firmware::bq769x0_init_wired(job, tape, log, inputs, list, out)
+}
+
+fn balance_set(
+    device: &[u8],
+    set: u16,
+    limit: u8,
+    tape: &[u8],
+    log: &mut [u8],
+    out: &mut [u8; 36],
+) -> u8
+    ensures { λ r. ⌜ SetLive (now (device .entry)) set limit (now (tape .entry)) (now (log .entry))
+        (handed r (now (out .exit)) (now (log .exit))) ⌝ }
+{
+    firmware::bq769x0_balance_set(device, set, limit, tape, log, out)
+}
+
+fn balance_get(device: &[u8], tape: &[u8], log: &mut [u8], out: &mut [u8; 36]) -> u8
+    ensures { λ r. ⌜ GetLive (now (device .entry)) (now (tape .entry)) (now (log .entry))
+        (handed r (now (out .exit)) (now (log .exit))) ⌝ }
+{
+    firmware::bq769x0_balance_get(device, tape, log, out)
 }

@@ -1,1 +1,3 @@
 mod ForC
+mod InitForC
+mod SetForC

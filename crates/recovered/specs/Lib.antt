@@ -1,1 +1,3 @@
 pub mod ForC
+pub mod InitForC
+pub mod SetForC
