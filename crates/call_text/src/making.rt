@@ -40,6 +40,7 @@ pub(crate) enum Told {
     Charging(bool),
     Source(TemperatureSource),
     CellOn(u8),
+    BalanceGet(u16),
 }
 
 // What a lent list of millivolts is full of: no reading gives it.

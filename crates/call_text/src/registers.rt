@@ -10,6 +10,7 @@ use bus::Cursor;
 use bus::link::Raw;
 use bus::link::RawAnswer;
 use commands::balancing;
+use commands::balancing::SetAnswer;
 use commands::by_record;
 use commands::control;
 use commands::control::SourceAnswer;
@@ -40,6 +41,8 @@ pub(crate) fn make(
         0x2D => ship_enter(device, tape, log, at),
         0x30 => temperature_source(device, tape, log, at),
         0x32 => read_raw(value, device, tape, log, at),
+        0x36 => balance_set(value, device, tape, log, at),
+        0x37 => balance_get(device, tape, log, at),
         _ => command(tag, value, device, tape, log, at),
     }
 }
@@ -51,6 +54,29 @@ fn balancing_state(device: BQ769x0, tape: &[u8], log: &mut [u8], at: Cursor) -> 
     let told = match answer {
         ByteAnswer::Byte(cells) => Told::Balancing(cells),
         ByteAnswer::Refused(e) => Told::Refused(e),
+    };
+    answered(told, device, at)
+}
+
+// A set of two bytes, and the limit.
+fn balance_set(value: &[u8], device: BQ769x0, tape: &[u8], log: &mut [u8], at: Cursor) -> Made {
+    if value.len() != 3 {
+        return not_made(device, at);
+    }
+    let set = numbers::be_u16(value[0], value[1]);
+    done(
+        balancing::balance_set(device, set, value[2], tape, log, at),
+        device,
+    )
+}
+
+fn balance_get(device: BQ769x0, tape: &[u8], log: &mut [u8], at: Cursor) -> Made {
+    let read = balancing::balance_get(device, tape, log, at);
+    let answer = read.answer;
+    let at = read.at;
+    let told = match answer {
+        SetAnswer::Set(set) => Told::BalanceGet(set),
+        SetAnswer::Refused(e) => Told::Refused(e),
     };
     answered(told, device, at)
 }

@@ -21,6 +21,7 @@ pub(crate) fn show(told: Told, lent: Lent, count: usize) {
         Told::Charging(on) => lines::number(b"charging", if on { 1 } else { 0 }),
         Told::Source(source) => source_line(source),
         Told::CellOn(cell) => lines::number(b"cellon", cell as u64),
+        Told::BalanceGet(set) => lines::number(b"balanceget", set as u64),
     }
 }
 

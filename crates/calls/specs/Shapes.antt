@@ -33,6 +33,8 @@ shapes =
     ∷ (0x33, S.Write)  -- write_raw
     ∷ (0x34, S.Bytes 2)  -- wired
     ∷ (0x35, S.Bytes 3)  -- cell_on
+    ∷ (0x36, S.Bytes 3)  -- balance_set
+    ∷ (0x37, S.Empty)  -- balance_get
     ∷ []
 
 abbrev pub shapeIn : List (ℕ × Shape) → ℕ → Shape

@@ -47,7 +47,7 @@ pub enum Shape {
 }
 
 // By their tags from 21.
-const SHAPES: [Shape; 21] = [
+const SHAPES: [Shape; 23] = [
     Shape::Config, // 21 init
     Shape::Bytes(1), // 22 cells
     Shape::Empty, // 23 current
@@ -69,6 +69,8 @@ const SHAPES: [Shape; 21] = [
     Shape::Write, // 33 write_raw
     Shape::Bytes(2), // 34 wired
     Shape::Bytes(3), // 35 cell_on
+    Shape::Bytes(3), // 36 balance_set
+    Shape::Empty, // 37 balance_get
 ];
 
 fn shape_of(tag: u8) -> Shape
@@ -77,7 +79,7 @@ fn shape_of(tag: u8) -> Shape
     if tag < 0x21 {
         return Shape::Unknown;
     }
-    if 0x35 < tag {
+    if 0x37 < tag {
         return Shape::Unknown;
     }
     SHAPES[(tag - 0x21) as usize]
