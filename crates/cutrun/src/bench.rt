@@ -1,23 +1,22 @@
-// The driver's `init` on the model chip, with one transfer cut or none. The chip's answers make up the tape. What is to be answered next is found
+// A call of the driver on the model chip, with one transfer cut or none. The chip's answers make up the tape. What is to be answered next is found
 // out by a fault at the tape's end: the transfer that the fault met is the last in the log. The chip's answer then takes the fault's place.
+use crate::call::Call;
+use crate::call::Left;
 use bq769x0::BQ769x0;
-use bus::Cursor;
 use chip::Chip;
 use chip::answer::Cut;
-use plan::Config;
-use setup::left::Init;
 
-// No init makes more transfers.
+// No call makes more transfers.
 pub(crate) const MOST: usize = 8;
 
-// No init has more places to be cut at.
+// No call has more places to be cut at.
 pub(crate) const PLACES: usize = 64;
 
-// A chip, a record that speaks to it, and what it is to be set up with.
+// A chip, a record that speaks to it, and the call that is made.
 pub(crate) struct Start {
     pub chip: Chip,
     pub device: BQ769x0,
-    pub config: Config,
+    pub call: Call,
 }
 
 // Where the wire is cut: in a transfer, from 0, after so many of its bytes.
@@ -62,7 +61,7 @@ pub(crate) struct Bench {
 
 pub(crate) struct Outcome {
     pub bench: Bench,
-    pub init: Init,
+    pub left: Left,
 }
 
 impl Outcome {
@@ -151,32 +150,27 @@ impl Bench {
     }
 
     // Behind the answers so far a fault with no bytes: 02, and the two zeros of its length.
-    fn step(self, device: BQ769x0, config: Config, place: Place) -> Bench {
+    fn step(self, device: BQ769x0, call: Call, place: Place) -> Bench {
         let mut log = [0u8; 256];
         let mut tape = self.tape;
         let end = self.end;
         if end < 256 {
             tape[end] = 0x02;
         }
-        let init = set_up(tape, device, config, &mut log);
-        self.next(log, init.at.log, place)
+        let left = call.on_tape(device, tape, &mut log);
+        self.next(log, left.log, place)
     }
-}
-
-fn set_up(tape: [u8; 256], device: BQ769x0, config: Config, log: &mut [u8; 256]) -> Init {
-    let at = Cursor { tape: 0, log: 0 };
-    setup::init(device, config, &tape, log, at)
 }
 
 pub(crate) fn run(start: Start, place: Place) -> Outcome {
     let device = start.device;
-    let config = start.config;
+    let call = start.call;
     let mut bench = Bench::new(start.chip);
     for k in 0..MOST {
-        bench = bench.step(device, config, place);
+        bench = bench.step(device, call, place);
     }
     let tape = bench.tape;
     let mut log = [0u8; 256];
-    let init = set_up(tape, device, config, &mut log);
-    Outcome { bench, init }
+    let left = call.on_tape(device, tape, &mut log);
+    Outcome { bench, left }
 }

@@ -1,7 +1,8 @@
-// The chips, the records and the configurations.
+// The chips, the records and the calls.
 use crate::bench;
 use crate::bench::Place;
 use crate::bench::Start;
+use crate::call::Call;
 use bq769x0::BQ769x0;
 use chip::Chip;
 use plan::Config;
@@ -28,12 +29,12 @@ fn with(shunt: u32, scd: u32, ocd: u32, uv: i32, ov: i32) -> Config {
     }
 }
 
-pub(crate) fn example() -> Config {
+fn example() -> Config {
     with(1000, 50, 20, 2800, 4200)
 }
 
 // Both steps in the upper range only.
-pub(crate) fn upper() -> Config {
+fn upper() -> Config {
     Config {
         shunt: MicroOhms(2000),
         scd_delay: SCDDelay::_70uS,
@@ -45,6 +46,15 @@ pub(crate) fn upper() -> Config {
         ov_delay: OVDelay::_4s,
         ov_threshold: MilliVolts(3650),
     }
+}
+
+// Either of these as the other call after a cut.
+pub(crate) fn as_example() -> Call {
+    Call::Init(example())
+}
+
+pub(crate) fn as_upper() -> Call {
+    Call::Init(upper())
 }
 
 fn fresh(x: u8, address: u8, check: bool) -> BQ769x0 {
@@ -62,7 +72,7 @@ pub(crate) fn all_zero(check: bool) -> Start {
     Start {
         chip: Chip::make(8, check),
         device: fresh(BQ769x0::BQ76920, 8, check),
-        config: example(),
+        call: Call::Init(example()),
     }
 }
 
@@ -79,7 +89,7 @@ pub(crate) fn not_zero(check: bool) -> Start {
     Start {
         chip: counted_down(check),
         device: fresh(BQ769x0::BQ76930, 0x18, check),
-        config: upper(),
+        call: Call::Init(upper()),
     }
 }
 
@@ -88,15 +98,15 @@ fn set_up(check: bool, config: Config) -> Start {
     let first = Start {
         chip: Chip::make(8, check),
         device: fresh(BQ769x0::BQ76940, 8, check),
-        config: example(),
+        call: Call::Init(example()),
     };
     let run = bench::run(first, Place::none());
     let chip = run.bench.chip;
-    let device = run.init.device;
+    let device = run.left.device;
     Start {
         chip,
         device,
-        config,
+        call: Call::Init(config),
     }
 }
 
@@ -127,4 +137,58 @@ pub(crate) fn no_shunt(check: bool) -> Start {
 // By 13, with no transfer.
 pub(crate) fn overcurrent(check: bool) -> Start {
     set_up(check, with(1000, 1000, 20, 2800, 4200))
+}
+
+// ---- sets of inputs, on a chip that was set up, and has other inputs on and in 01 to 03 bits that are no input's
+
+fn with_others_on(x: u8, check: bool, call: Call) -> Start {
+    let first = Start {
+        chip: counted_down(check),
+        device: fresh(x, 0x18, check),
+        call: Call::Init(upper()),
+    };
+    let run = bench::run(first, Place::none());
+    let chip = run.bench.chip;
+    let device = run.left.device;
+    Start { chip, device, call }
+}
+
+// The most that a device of x inputs can have on together.
+fn most(x: u8) -> u16 {
+    match x {
+        BQ769x0::BQ76920 => 0b10101,
+        BQ769x0::BQ76930 => 0b10101_10101,
+        _ => 0b10101_10101_10101,
+    }
+}
+
+pub(crate) fn set(x: u8, check: bool) -> Start {
+    with_others_on(x, check, Call::Set(most(x), 9))
+}
+
+// The second input, as the other set after a cut.
+pub(crate) fn second() -> Call {
+    Call::Set(0b00010, 1)
+}
+
+// By 22, 23 and 24, with no transfer.
+pub(crate) fn not_on_device(check: bool) -> Start {
+    with_others_on(BQ769x0::BQ76930, check, Call::Set(0b1_00000_00000, 9))
+}
+
+pub(crate) fn neighbours(check: bool) -> Start {
+    with_others_on(BQ769x0::BQ76930, check, Call::Set(0b11000, 9))
+}
+
+pub(crate) fn too_many(check: bool) -> Start {
+    with_others_on(BQ769x0::BQ76930, check, Call::Set(0b00001_00001, 1))
+}
+
+// Input 6 is on, and input 1 is to be instead, with a limit of 1.
+pub(crate) fn six_then_one(check: bool) -> Start {
+    Start {
+        chip: Chip::make(8, check).set(0x02, 0b00001),
+        device: fresh(BQ769x0::BQ76930, 8, check),
+        call: Call::Set(0b00001, 1),
+    }
 }

@@ -1,19 +1,20 @@
-// Whether two inits answered the same and left the same record and the same registers.
+// Whether two calls answered the same and left the same record and the same registers.
 use crate::bench::Outcome;
+use crate::call::Left;
 use bq769x0::BQ769x0;
 use bus::link::Link;
 use chip::Chip;
-use plan::InitAnswer;
 use plan::answer::InitNumbers;
-use setup::left::Init;
 use units::MilliVolts;
 
 fn same_numbers(a: InitNumbers, b: InitNumbers) -> bool {
     (a.0 == b.0) & (a.1 == b.1) & (a.2 == b.2) & (a.3 == b.3) & (a.4 == b.4)
 }
 
-fn same_answer(a: InitAnswer, b: InitAnswer) -> bool {
-    (a.number() == b.number()) & same_numbers(a.in_numbers(), b.in_numbers())
+fn same_answer(a: Left, b: Left) -> bool {
+    let a_numbers = a.numbers;
+    let b_numbers = b.numbers;
+    (a.number == b.number) & same_numbers(a_numbers, b_numbers)
 }
 
 fn same_cells(a: [MilliVolts; 15], b: [MilliVolts; 15]) -> bool {
@@ -56,18 +57,16 @@ fn same_registers(a: Chip, b: Chip) -> bool {
     true
 }
 
-fn same_init(a: Init, b: Init) -> bool {
-    let a_answer = a.answer;
-    let b_answer = b.answer;
+fn same_left(a: Left, b: Left) -> bool {
     let a_device = a.device;
     let b_device = b.device;
-    same_answer(a_answer, b_answer) & same_record(a_device, b_device)
+    same_answer(a, b) & same_record(a_device, b_device)
 }
 
 pub(crate) fn same(a: Outcome, b: Outcome) -> bool {
-    let a_init = a.init;
-    let b_init = b.init;
+    let a_left = a.left;
+    let b_left = b.left;
     let a_chip = a.bench.chip;
     let b_chip = b.bench.chip;
-    same_init(a_init, b_init) & same_registers(a_chip, b_chip)
+    same_left(a_left, b_left) & same_registers(a_chip, b_chip)
 }

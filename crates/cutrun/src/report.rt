@@ -1,37 +1,33 @@
-// A line for each start: what its init answers and leaves, at how many places it was cut, and after how many of these cuts an init on a whole bus
+// A line for each start: what its call answers and leaves, at how many places it was cut, and after how many of these cuts a call on a whole bus
 // ended as if nothing had been cut before it. A cut after which one did not has a line of its own.
 use crate::bench;
 use crate::bench::Outcome;
 use crate::bench::Place;
 use crate::bench::Start;
+use crate::call::Call;
 use crate::cases;
 use crate::compare;
 use crate::tally::Tally;
 use bq769x0::BQ769x0;
 use chip::Chip;
-use plan::Config;
 
-// The init after a cut: with the record that the cut left or with a new one, and of this configuration.
+// The call after a cut: with the record that the cut left or with a new one.
 struct After {
     anew: bool,
-    config: Config,
+    call: Call,
 }
 
 impl After {
     fn on(self, chip: Chip, device: BQ769x0) -> Start {
-        let config = self.config;
+        let call = self.call;
         if self.anew {
             return Start {
                 chip,
                 device: cases::anew(device),
-                config,
+                call,
             };
         }
-        Start {
-            chip,
-            device,
-            config,
-        }
+        Start { chip, device, call }
     }
 }
 
@@ -66,15 +62,14 @@ fn record(device: BQ769x0) {
 }
 
 fn answer(run: Outcome) {
-    let init = run.init;
-    let answer = init.answer;
+    let left = run.left;
     text::words(b" answer");
-    text::number(answer.number() as u64);
+    text::number(left.number as u64);
 }
 
 // What a run from a start answers and leaves.
 fn left(start: Start, run: Outcome) {
-    let device = run.init.device;
+    let device = run.left.device;
     let before = start.chip;
     let chip = run.bench.chip;
     text::words(b":");
@@ -108,7 +103,7 @@ fn line(name: &[u8], start: Start, place: Place) {
     text::words(b"\n");
 }
 
-// Whether the init after a cut ends as this one; a line where it does not.
+// Whether the call after a cut ends as this one; a line where it does not.
 fn same(
     name: &[u8],
     what: &[u8],
@@ -119,7 +114,7 @@ fn same(
 ) -> bool {
     let cut = bench::run(start, place);
     let chip = cut.bench.chip;
-    let device = cut.init.device;
+    let device = cut.left.device;
     let then = bench::run(after.on(chip, device), Place::none());
     if compare::same(then, whole) {
         return true;
@@ -130,7 +125,7 @@ fn same(
     false
 }
 
-// That init with nothing cut before it.
+// That call with nothing cut before it.
 fn uncut(start: Start, after: After) -> Outcome {
     let chip = start.chip;
     let device = start.device;
@@ -151,7 +146,7 @@ fn each(name: &[u8], what: &[u8], start: Start, after: After) -> Tally {
     tally
 }
 
-fn counted(kept: Tally, lost: Tally, otherwise: Tally) {
+fn counted(kept: Tally, lost: Tally, otherwise: Tally, call: Call) {
     text::words(b"; cut at");
     text::number(kept.tried);
     text::words(b" places, then as if never cut:");
@@ -160,27 +155,25 @@ fn counted(kept: Tally, lost: Tally, otherwise: Tally) {
     text::number(lost.same);
     text::words(b" with a new record,");
     text::number(otherwise.same);
-    text::words(b" of another configuration,");
+    call.another();
+    text::words(b",");
 }
 
 // A start's line.
-pub(crate) fn all(name: &[u8], start: Start, other: Config) {
-    let config = start.config;
-    let again = After {
-        anew: false,
-        config,
-    };
-    let anew = After { anew: true, config };
+pub(crate) fn all(name: &[u8], start: Start, other: Call) {
+    let call = start.call;
+    let again = After { anew: false, call };
+    let anew = After { anew: true, call };
     let otherwise = After {
         anew: false,
-        config: other,
+        call: other,
     };
     let kept = each(name, b"again", start, again);
     let lost = each(name, b"with a new record", start, anew);
-    let last = each(name, b"of another configuration", start, otherwise);
+    let last = each(name, b"otherwise", start, otherwise);
     title(name, start);
     left(start, bench::run(start, Place::none()));
-    counted(kept, lost, last);
+    counted(kept, lost, last, call);
     answer(uncut(start, otherwise));
     text::words(b"\n");
 }

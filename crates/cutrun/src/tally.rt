@@ -1,4 +1,4 @@
-// How many inits were made after a cut, and how many of them ended as if nothing had been cut before them.
+// How many calls were made after a cut, and how many of them ended as if nothing had been cut before them.
 
 pub(crate) struct Tally {
     pub tried: u64,

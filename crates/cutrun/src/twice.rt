@@ -1,29 +1,25 @@
-// Two cuts in a row, at each pair of places, and whether the init after them ends as if nothing had been cut before it.
+// Two cuts in a row, at each pair of places, and whether the call after them ends as if nothing had been cut before it.
 use crate::bench;
 use crate::bench::Outcome;
 use crate::bench::Place;
 use crate::bench::Start;
+use crate::call::Call;
 use crate::compare;
 use crate::report;
 use crate::tally::Tally;
-use plan::Config;
 
 // On what a run left.
-fn after(run: Outcome, config: Config) -> Start {
+fn after(run: Outcome, call: Call) -> Start {
     let chip = run.bench.chip;
-    let device = run.init.device;
-    Start {
-        chip,
-        device,
-        config,
-    }
+    let device = run.left.device;
+    Start { chip, device, call }
 }
 
 // A line where it ended otherwise.
 fn pair(first: Place, second: Place, start: Start, whole: Outcome) -> bool {
-    let config = start.config;
+    let call = start.call;
     let cut = bench::run(start, second);
-    let again = bench::run(after(cut, config), Place::none());
+    let again = bench::run(after(cut, call), Place::none());
     let same = compare::same(again, whole);
     if !same {
         text::words(b"cut twice");
@@ -47,13 +43,13 @@ fn each_second(first: Place, start: Start, whole: Outcome, tally: Tally) -> Tall
 }
 
 fn each_first(start: Start, whole: Outcome) -> Tally {
-    let config = start.config;
+    let call = start.call;
     let mut tally = Tally::none();
     let mut first = Place::first();
     for n in 0..bench::PLACES {
         if whole.has(first) {
             let cut = bench::run(start, first);
-            tally = each_second(first, after(cut, config), whole, tally);
+            tally = each_second(first, after(cut, call), whole, tally);
             first = whole.next(first);
         }
     }

@@ -1,15 +1,14 @@
 -- `cutrun::bench::run` ends. Assumes nothing.
 use Prim.Native.Nat.{_-_}
-use native.Mathlib.Omega.{arith}
 use borrow.Author.Needs.{needs}
 use Rattle.cutrun.proofs.bench.run.Statement.{statement}
 use Rattle.cutrun.proofs.bench.run.Tie as tie
 
 abbrev Inv-loop : tie.InvT-loop
-Inv-loop place device config bench₀ k₀ bench k = Unit {0}
+Inv-loop place device call bench₀ k₀ bench k = Unit {0}
 
 abbrev μ-loop : tie.MeasureT-loop
-μ-loop place device config bench₀ k₀ bench k = 8 - k
+μ-loop place device call bench₀ k₀ bench k = 8 - k
 
 new-requires : tie.Need-new-requires Inv-loop μ-loop
 new-requires c κs = search needs
@@ -29,8 +28,8 @@ loop-less c = search needs
 loop-again : tie.Need-loop-again Inv-loop μ-loop
 loop-again c = search needs
 
-set-up-requires : tie.Need-set-up-requires Inv-loop μ-loop
-set-up-requires c κs = search needs
+on-tape-requires : tie.Need-on-tape-requires Inv-loop μ-loop
+on-tape-requires c κs = search needs
 
 returns : tie.Need-returns Inv-loop μ-loop
 returns c = search needs
@@ -47,5 +46,5 @@ run-spec =
     add-k
     loop-less
     loop-again
-    set-up-requires
+    on-tape-requires
     returns)

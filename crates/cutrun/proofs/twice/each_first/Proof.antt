@@ -1,15 +1,14 @@
 -- `cutrun::twice::each_first` ends. Assumes nothing.
 use Prim.Native.Nat.{_-_}
-use native.Mathlib.Omega.{arith}
 use borrow.Author.Needs.{needs}
 use Rattle.cutrun.proofs.twice.each_first.Statement.{statement}
 use Rattle.cutrun.proofs.twice.each_first.Tie as tie
 
 abbrev Inv-loop : tie.InvT-loop
-Inv-loop start whole config tally₀ first₀ n₀ tally first n = Unit {0}
+Inv-loop start whole call tally₀ first₀ n₀ tally first n = Unit {0}
 
 abbrev μ-loop : tie.MeasureT-loop
-μ-loop start whole config tally₀ first₀ n₀ tally first n = 64 - n
+μ-loop start whole call tally₀ first₀ n₀ tally first n = 64 - n
 
 none-requires : tie.Need-none-requires Inv-loop μ-loop
 none-requires c κs = search needs
