@@ -1,13 +1,13 @@
 //! Calls of the library for C by the throw of the dice.
 use crate::bus::field_of;
 use crate::expected;
-use crate::make::{damage, device, dice, ends, init, tape, Dice};
+use crate::make::{damage, device, dice, ends, init, set, tape, Dice};
 
 /// More than any call takes of a log.
 const LONGEST_LOG: usize = 130;
 
 /// What a call is given: the two texts, the log's size, for `bq769x0_init_cells` and `bq769x0_init_wired` the list's, and for the latter that of
-/// the inputs.
+/// the inputs; or for the balancing functions the field of their call, which has the set and the limit.
 #[derive(Clone)]
 pub struct Asked {
     pub job: Vec<u8>,
@@ -15,22 +15,36 @@ pub struct Asked {
     pub log: usize,
     pub list: Option<usize>,
     pub inputs: Option<usize>,
+    pub balance: Option<Vec<u8>>,
 }
 
-/// The call of this index: by turns of the three functions.
+/// The call of this index: by turns of the five functions.
 pub fn asked(seed: u64, index: u64) -> Asked {
     let dice = &mut dice(seed, index);
-    let device = device(dice);
-    let chip = [dice.byte(), dice.byte(), dice.byte()];
-    let job = [field_of(0x20, &device), field_of(0x21, &init(dice, &chip))].concat();
-    let list = (index % 3 > 0).then(|| list_size(dice, device[1]));
-    let inputs = (index % 3 > 1).then(|| inputs_size(dice, device[1]));
-    let reading = if list.is_none() { vec![] } else { field_of(0x22, &[15]) };
-    let tape = tape(dice, &[&job[..], &reading, &[0x3F, 0, 0]].concat(), chip);
-    let mut asked = Asked { job, tape, log: LONGEST_LOG, list, inputs };
+    let mut asked = if index % 5 < 3 { an_init(dice, index % 5) } else { balancing(dice, index % 5 == 3) };
     spoil(dice, &mut asked);
     asked.log = log_size(dice, &asked);
     asked
+}
+
+fn an_init(dice: &mut Dice, readings: u64) -> Asked {
+    let device = device(dice);
+    let chip = [dice.byte(), dice.byte(), dice.byte()];
+    let job = [field_of(0x20, &device), field_of(0x21, &init(dice, &chip))].concat();
+    let list = (readings > 0).then(|| list_size(dice, device[1]));
+    let inputs = (readings > 1).then(|| inputs_size(dice, device[1]));
+    let reading = if list.is_none() { vec![] } else { field_of(0x22, &[15]) };
+    let tape = tape(dice, &[&job[..], &reading, &[0x3F, 0, 0]].concat(), chip);
+    Asked { job, tape, log: LONGEST_LOG, list, inputs, balance: None }
+}
+
+/// A set, or its reading back, by field 20 alone.
+fn balancing(dice: &mut Dice, sets: bool) -> Asked {
+    let device = device(dice);
+    let job = field_of(0x20, &device);
+    let call = if sets { field_of(0x36, &set(dice, device[0] as usize)) } else { field_of(0x37, &[]) };
+    let tape = tape(dice, &[&job[..], &call, &[0x3F, 0, 0]].concat(), [0; 3]);
+    Asked { job, tape, log: LONGEST_LOG, list: None, inputs: None, balance: Some(call) }
 }
 
 /// Some jobs and tapes damaged, some with bytes behind that nobody looks at, and some tapes cut short.

@@ -1,5 +1,6 @@
 // A job on the crate, behind the added refusals. Included once for each build of the crate, which is `bq` here.
 use crate::bus::{lines, Bus, Transfer};
+use crate::crates::balancing;
 use crate::crates::chip::Chip;
 use crate::crates::printed::{cell_on, end, numbers, unsound, Lent};
 use crate::crates::wiring::fitted;
@@ -107,6 +108,8 @@ where
             0x32 => device.read_raw(bus, value[0], &mut lent.data).map(done),
             0x34 => return self.wired(lent),
             0x35 => return cell_on(value),
+            0x36 => return self.balance_set(value),
+            0x37 => return self.balance_get(),
             _ => device.write_raw(bus, value[0], &value[1..]).map(done),
         }
         .map_err(number)
@@ -182,6 +185,28 @@ where
             return Ok(format!("voltage {found} by the crate, {} by its formula", by(5)));
         }
         Ok(format!("voltage {}", by(self.job.cells)))
+    }
+
+    /// 22, 23 and 24 in front. The write of one register is the crate's own for balancing, that of two or three its `write_raw`.
+    fn balance_set(&mut self, value: &[u8]) -> Result<String, String> {
+        let set = u16::from_be_bytes([value[0], value[1]]);
+        let registers = balancing::registers(X, set, value[2]).map_err(|number| number.to_string())?;
+        let written = match registers[..] {
+            [byte] => self.device.enable_balancing(self.bus, byte),
+            _ => self.device.write_raw(self.bus, 0x01, &registers),
+        };
+        written.map(|()| "done".to_string()).map_err(number)
+    }
+
+    /// The read likewise.
+    fn balance_get(&mut self) -> Result<String, String> {
+        let mut registers = vec![0; X / 5];
+        match registers[..] {
+            [_] => self.device.balancing_state(self.bus).map(|byte| registers[0] = byte),
+            _ => self.device.read_raw(self.bus, 0x01, &mut registers),
+        }
+        .map_err(number)?;
+        Ok(format!("balanceget {}", balancing::set(&registers)))
     }
 
     /// 4 in front.

@@ -2,6 +2,8 @@
 use crate::bus::Bus;
 use crate::job::{parse, Job};
 
+#[path = "balancing.rs"]
+pub mod balancing;
 #[path = "chip.rs"]
 pub mod chip;
 #[path = "printed.rs"]

@@ -5,8 +5,9 @@ use crate::crates::{run, wiring};
 use crate::job::{parse_calls, Job};
 use crate::linked::{over, Left, OUT};
 
-/// Fields 20 and 21.
+/// Fields 20 and 21, and field 20 alone.
 const JOB: usize = 34;
+const DEVICE: usize = 7;
 
 /// An answer's line: its numbers, or a refusal's number and figures.
 enum Answer {
@@ -22,8 +23,11 @@ struct Answered<'a> {
     cells: Vec<u32>,
 }
 
-/// The job of one init that these bytes begin with, and its tape.
+/// The job of one call that these bytes begin with, and its tape: an init, or a balancing call on the device.
 fn job(asked: &Asked) -> Option<Job> {
+    if let Some(call) = &asked.balance {
+        return parse_calls(&[asked.job.get(..DEVICE)?, call, &[0x3F, 0, 0], &asked.tape].concat());
+    }
     let job = parse_calls(&[asked.job.get(..JOB)?, &[0x3F, 0, 0], &asked.tape].concat())?;
     matches!(job.calls[..], [(0x21, _)]).then_some(job)
 }
@@ -40,6 +44,8 @@ fn answer(text: &str) -> Result<Answer, String> {
     let answer = match words[..] {
         ["init", "range", range, "scd", scd, "ocd", ocd, "uv", uv, "ov", ov] => numbers(&[range, scd, ocd, uv, ov]).map(Answer::Given),
         ["cells" | "wired", ref cells @ ..] => numbers(cells).map(Answer::Given),
+        ["balanceget", set] => numbers(&[set, "0", "0", "0", "0"]).map(Answer::Given),
+        ["done"] => Some(Answer::Given(vec![0; 5])),
         ["refused", ref refusal @ ..] => numbers(refusal).map(Answer::Refused),
         _ => None,
     };
@@ -60,11 +66,11 @@ fn refused<'a>(bus: Bus<'a>, refusal: &[u32]) -> Answered<'a> {
     Answered { bus, number: refusal[0], five, inputs: vec![], cells: vec![] }
 }
 
-/// The init, and where it is accepted and a list lent, both calls from the start.
+/// The call; and where it is an init that is accepted and a list is lent, both calls from the start.
 fn answered<'a>(asked: &Asked, overflow_checks: bool) -> Result<Answered<'a>, String> {
     let Some(mut job) = job(asked) else { return Ok(refused(Bus::new(false, &[]), &[15])) };
-    let (bus, init) = ran(&job, asked.log, overflow_checks)?;
-    let five = match init {
+    let (bus, first) = ran(&job, asked.log, overflow_checks)?;
+    let five = match first {
         Answer::Given(five) => five,
         Answer::Refused(refusal) => return Ok(refused(bus, &refusal)),
     };

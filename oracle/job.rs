@@ -91,8 +91,8 @@ fn lawful(tag: u8, value: &[u8]) -> bool {
         (0x32, v) => v.len() == 3 && u16::from_be_bytes([v[1], v[2]]) <= 512,
         (0x33, v) => (1..=65).contains(&v.len()),
         (0x34, v) => v.len() == 2,
-        (0x35, v) => v.len() == 3,
-        (0x23 | 0x24 | 0x25 | 0x27 | 0x28 | 0x2C | 0x2D | 0x30, v) => v.is_empty(),
+        (0x35 | 0x36, v) => v.len() == 3,
+        (0x23 | 0x24 | 0x25 | 0x27 | 0x28 | 0x2C | 0x2D | 0x30 | 0x37, v) => v.is_empty(),
         _ => false,
     }
 }

@@ -40,11 +40,14 @@ fn smaller(asked: Asked) -> Asked {
     Asked { inputs, ..asked }
 }
 
-const NAMES: [&str; 3] = ["bq769x0_init", "bq769x0_init_cells", "bq769x0_init_wired"];
+const NAMES: [&str; 5] = ["bq769x0_init", "bq769x0_init_cells", "bq769x0_init_wired", "bq769x0_balance_set", "bq769x0_balance_get"];
 
-/// Which of the three functions is called.
+/// Which of the functions is called.
 fn kind(asked: &Asked) -> usize {
-    asked.list.is_some() as usize + asked.inputs.is_some() as usize
+    match &asked.balance {
+        Some(call) => 3 + (call[0] == 0x37) as usize,
+        None => asked.list.is_some() as usize + asked.inputs.is_some() as usize,
+    }
 }
 
 fn text(left: &Result<Left, String>) -> String {
@@ -62,6 +65,7 @@ fn report(asked: Asked) -> ! {
     let [ours, checked, wrapping] = [Ok(call(&least)), expected(&least, true), expected(&least, false)].map(|left| text(&left));
     println!("a difference; the smallest call of {} that shows it:\njob{}\ntape{}", NAMES[kind(&least)], hex(&least.job), hex(&least.tape));
     let (inputs, list) = (least.inputs.unwrap_or(0), least.list.unwrap_or(0));
+    println!("call{}", hex(least.balance.as_deref().unwrap_or(&[])));
     println!("log of {} bytes, inputs of {inputs}, list of {list}; each buffer below with its margins", least.log);
     println!("the library:\n{ours}\nthe crate with overflow checks:\n{checked}\nwithout:\n{wrapping}");
     exit(1);
@@ -85,7 +89,7 @@ fn main() {
     let [_, seed, jobs] = &arguments[..] else { panic!("library SEED COUNT") };
     let (seed, jobs): (u64, u64) = (seed.parse().expect("a seed"), jobs.parse().expect("a count"));
     each_cell_on();
-    let mut tally: BTreeMap<u8, [usize; 3]> = BTreeMap::new();
+    let mut tally: BTreeMap<u8, [usize; 5]> = BTreeMap::new();
     for index in 0..jobs {
         let asked = asked(seed, index);
         if differs(&asked) {
@@ -94,7 +98,8 @@ fn main() {
         }
         tally.entry(call(&asked).number).or_default()[kind(&asked)] += 1;
     }
-    let came: Vec<String> = tally.iter().map(|(number, [init, cells, wired])| format!("{number}: {init}, {cells}, {wired}")).collect();
+    let times = |times: &[usize; 5]| times.map(|times| times.to_string()).join(", ");
+    let came: Vec<String> = tally.iter().map(|(number, by_kind)| format!("{number}: {}", times(by_kind))).collect();
     println!("library: how often each number came, from each of {}: {}", NAMES.join(", "), came.join("; "));
     let jobs = |kind: usize| tally.values().map(|times| times[kind]).sum::<usize>();
     let counts: Vec<String> = NAMES.iter().enumerate().map(|(kind, name)| format!("{} of {name}", jobs(kind))).collect();

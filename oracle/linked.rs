@@ -16,6 +16,10 @@ extern "C" {
         job: *const u8, job_len: usize, tape: *const u8, tape_len: usize, log: *mut u8, log_len: usize,
         inputs: *mut u8, inputs_len: usize, list: *mut u8, list_len: usize, out: *mut u8,
     ) -> u8;
+    fn bq769x0_balance_set(
+        device: *const u8, device_len: usize, set: u16, limit: u8, tape: *const u8, tape_len: usize, log: *mut u8, log_len: usize, out: *mut u8,
+    ) -> u8;
+    fn bq769x0_balance_get(device: *const u8, device_len: usize, tape: *const u8, tape_len: usize, log: *mut u8, log_len: usize, out: *mut u8) -> u8;
     fn bq769x0_cell_on(x: u8, cells: u8, input: u8, cell: *mut u8) -> u8;
 }
 
@@ -47,12 +51,25 @@ pub fn call(asked: &Asked) -> Left {
     // Each pointer has at least its length behind it, and what is written overlaps nothing.
     left.number = unsafe {
         match (asked.inputs, asked.list) {
+            _ if asked.balance.is_some() => balance(asked, log, out),
             (Some(m), Some(n)) => bq769x0_init_wired(job, job_len, tape, tape_len, log, asked.log, inputs, m, list, n, out),
             (_, Some(n)) => bq769x0_init_cells(job, job_len, tape, tape_len, log, asked.log, list, n, out),
             _ => bq769x0_init(job, job_len, tape, tape_len, log, asked.log, out),
         }
     };
     left
+}
+
+/// By the call's field: tag, two bytes of length, and for a set three of value.
+unsafe fn balance(asked: &Asked, log: *mut u8, out: *mut u8) -> u8 {
+    let (job, tape) = (&asked.job[..], &asked.tape[..]);
+    match asked.balance.as_deref() {
+        Some(&[0x36, _, _, high, low, limit]) => {
+            let set = u16::from_be_bytes([high, low]);
+            bq769x0_balance_set(job.as_ptr(), job.len(), set, limit, tape.as_ptr(), tape.len(), log, asked.log, out)
+        }
+        _ => bq769x0_balance_get(job.as_ptr(), job.len(), tape.as_ptr(), tape.len(), log, asked.log, out),
+    }
 }
 
 fn inside(buffer: &mut [u8]) -> *mut u8 {

@@ -193,7 +193,7 @@ fn calls(dice: &mut Dice, device: [u8; 4], chip: &Calibration, inits: usize) -> 
             0 => 0x22,
             1 => 0x23,
             2 => 0x34,
-            _ => 0x21 + dice.below(21) as u8,
+            _ => 0x21 + dice.below(23) as u8,
         };
         let value = call(dice, tag, device[0] as usize, chip);
         bytes.extend(field_of(tag, &value));
@@ -244,6 +244,7 @@ fn call(dice: &mut Dice, tag: u8, x: usize, chip: &Calibration) -> Vec<u8> {
         0x22 => vec![room(dice)],
         0x34 => vec![room(dice), room(dice)],
         0x35 => question(dice),
+        0x36 => set(dice, x),
         0x26 | 0x29 => vec![if dice.percent(80) { dice.byte() & 0xBF } else { dice.byte() }],
         0x2A | 0x2B | 0x2E | 0x2F => vec![dice.below(2) as u8],
         0x31 => vec![dice.below(3) as u8],
@@ -275,6 +276,27 @@ fn room(dice: &mut Dice) -> u8 {
 fn question(dice: &mut Dice) -> Vec<u8> {
     let [x, cells, ..] = device(dice);
     vec![x, cells, if dice.percent(90) { dice.below(17) as u8 } else { dice.byte() }]
+}
+
+/// A set of inputs and a limit: mostly inputs that the device has, no two beside each other, and as many as may be.
+pub fn set(dice: &mut Dice, x: usize) -> Vec<u8> {
+    let apart = dice.percent(80);
+    let most = if dice.percent(90) { x.min(15) } else { 16 };
+    let mut set = 0u16;
+    for place in 0..most {
+        let beside = place % 5 > 0 && set >> (place - 1) & 1 == 1;
+        if dice.percent(40) && !(apart && beside) {
+            set |= 1 << place;
+        }
+    }
+    let many = set.count_ones() as usize;
+    let limit = match dice.below(10) {
+        0 => dice.byte(),
+        1 => many.saturating_sub(1) as u8,
+        2..=5 => many as u8,
+        _ => (many + dice.below(9)) as u8,
+    };
+    vec![(set >> 8) as u8, set as u8, limit]
 }
 
 /// A register for a transfer of so many bytes: often one near which it would pass FF.
