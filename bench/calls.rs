@@ -1,5 +1,5 @@
 // The crate's calls. Included once for each build of the crate, which is `bq` here, over its `Bus`.
-use crate::{Config as Asked, Found, Record};
+use crate::{Config as Asked, Device, Found, Record};
 use bq::*;
 
 fn number(error: Error) -> Found {
@@ -96,6 +96,56 @@ pub fn init_cells(asked: &Asked, list: &mut [u8], bus: &mut Bus) -> Found {
         Ok(five)
     }
     by_size!(asked.x, on(asked, list, bus))
+}
+
+/// 10 and 11.
+fn new<const X: usize>(asked: &Device) -> Result<BQ769x0<X>, Found>
+where
+    [(); X * 2]: Sized,
+    [(); X * 4]: Sized,
+{
+    let Some(device) = BQ769x0::<X>::new(asked.address, asked.cells) else { return Err(Found::refused(10)) };
+    if asked.address > 127 { Err(Found::refused(11)) } else { Ok(device) }
+}
+
+/// A set of inputs by the crate's `write_raw`: 22, 23 and 24 in front.
+pub fn balance_set(asked: &Device, set: u16, limit: u8, bus: &mut Bus) -> Found {
+    fn on<const X: usize>(asked: &Device, set: u16, limit: u8, bus: &mut Bus) -> Result<[u32; 5], Found>
+    where
+        [(); X * 2]: Sized,
+        [(); X * 4]: Sized,
+    {
+        let mut device = new::<X>(asked)?;
+        if set >> X != 0 {
+            return Err(Found::refused(22));
+        }
+        if set & set >> 1 & 0b01111_01111_01111 != 0 {
+            return Err(Found::refused(23));
+        }
+        if set.count_ones() > limit as u32 {
+            return Err(Found::refused(24));
+        }
+        let registers = [set, set >> 5, set >> 10].map(|set| set as u8 & 0x1F);
+        let written = device.write_raw(bus, 0x01, &registers[..X / 5]);
+        heard(bus, written).map(done)
+    }
+    by_size!(asked.x, on(asked, set, limit, bus))
+}
+
+/// And its reading back by `read_raw`.
+pub fn balance_get(asked: &Device, bus: &mut Bus) -> Found {
+    fn on<const X: usize>(asked: &Device, bus: &mut Bus) -> Result<[u32; 5], Found>
+    where
+        [(); X * 2]: Sized,
+        [(); X * 4]: Sized,
+    {
+        let mut registers = [0; 3];
+        let read = new::<X>(asked)?.read_raw(bus, 0x01, &mut registers[..X / 5]);
+        heard(bus, read)?;
+        let [first, second, third] = registers.map(|byte| (byte & 0x1F) as u32);
+        Ok(one(first | second << 5 | third << 10))
+    }
+    by_size!(asked.x, on(asked, bus))
 }
 
 fn device<const X: usize>(record: &Record) -> BQ769x0<X> {

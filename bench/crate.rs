@@ -1,6 +1,6 @@
 //! The Rust crate behind the functions that the harness calls, with the signatures of the port's: bq769x0.h and calls.h have them. One
-//! library for each of harness.c's groups of calls, `five`, `rest` and `commands`, and one for steps.c, `steps`: a group is compiled with no
-//! other's callers beside it.
+//! library for each of harness.c's groups of calls, `five`, `rest`, `commands` and `balance`, and one for steps.c, `steps`: a group is compiled
+//! with no other's callers beside it.
 #![no_std]
 #![allow(incomplete_features, dead_code, unused_imports, unused_macros)]
 #![feature(generic_const_exprs)]
@@ -116,6 +116,42 @@ pub unsafe extern "C" fn bq769x0_init_cells(
     let mut tell = |used, logged, five: &[u32; 5]| lay_out(out, used, logged, five);
     let Some(asked) = parse(from_raw_parts(job, job_len)) else { return no_job(tell) };
     answer!(asked.check, tape, log, tell, init_cells(&asked, list))
+}
+
+/// Field 20.
+pub struct Device {
+    x: u8,
+    cells: u8,
+    address: u8,
+    check: bool,
+}
+
+fn parse_device(device: &[u8]) -> Option<Device> {
+    let &[0x20, 0, 4, x, cells, address, check @ 0..=1] = device.get(..7)? else { return None };
+    Some(Device { x, cells, address, check: check == 1 })
+}
+
+#[cfg(balance)]
+#[no_mangle]
+pub unsafe extern "C" fn bq769x0_balance_set(
+    device: *const u8, device_len: usize, set: u16, limit: u8, tape: *const u8, tape_len: usize, log: *mut u8, log_len: usize,
+    out: &mut [u8; 36],
+) -> u8 {
+    let (tape, log) = (from_raw_parts(tape, tape_len), from_raw_parts_mut(log, log_len));
+    let mut tell = |used, logged, five: &[u32; 5]| lay_out(out, used, logged, five);
+    let Some(asked) = parse_device(from_raw_parts(device, device_len)) else { return no_job(tell) };
+    answer!(asked.check, tape, log, tell, balance_set(&asked, set, limit))
+}
+
+#[cfg(balance)]
+#[no_mangle]
+pub unsafe extern "C" fn bq769x0_balance_get(
+    device: *const u8, device_len: usize, tape: *const u8, tape_len: usize, log: *mut u8, log_len: usize, out: &mut [u8; 36],
+) -> u8 {
+    let (tape, log) = (from_raw_parts(tape, tape_len), from_raw_parts_mut(log, log_len));
+    let mut tell = |used, logged, five: &[u32; 5]| lay_out(out, used, logged, five);
+    let Some(asked) = parse_device(from_raw_parts(device, device_len)) else { return no_job(tell) };
+    answer!(asked.check, tape, log, tell, balance_get(&asked))
 }
 
 /// 15: the job is no job.

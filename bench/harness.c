@@ -1,7 +1,7 @@
 /*
  * Makes one call, by the name of its case, and prints every byte that it leaves. The same text is linked with the port's libraries and
  * with the Rust's; what the two print must be the same before anything is counted. Which calls it has: FIVE (init, both cell readings by
- * the crate's list, current, read_raw), REST (the other calls of crates/bench), COMMANDS, WIRED.
+ * the crate's list, current, read_raw), REST (the other calls of crates/bench), COMMANDS, BALANCE, WIRED.
  */
 #include "bq769x0.h"
 #include "calls.h"
@@ -191,6 +191,24 @@ static int command(const char *name, int check) {
 }
 #endif
 
+/* Every other input of each block of five, and all that the device has read back. */
+#ifdef BALANCE
+static int balance(const char *name, int check) {
+    static const uint8_t regs[3] = {0x15, 0x0A, 0x15};
+    const uint8_t device[7] = {0x20, 0, 4, (uint8_t)inputs, (uint8_t)cells, ADDRESS, (uint8_t)check};
+    const uint16_t set = (uint16_t)(0x5555 & ((1 << inputs) - 1));
+    if (strcmp(name, "balance_set") == 0) {
+        write_tape(check, regs, (size_t)inputs / 5);
+        return bq769x0_balance_set(device, sizeof device, set, 8, tape, tape_len, log_, sizeof log_, out);
+    }
+    if (strcmp(name, "balance_get") == 0) {
+        done(check, regs, (size_t)inputs / 5);
+        return bq769x0_balance_get(device, sizeof device, tape, tape_len, log_, sizeof log_, out);
+    }
+    return NONE;
+}
+#endif
+
 /* The cells by the wiring, and the cell on an input: the Rust has neither. */
 #ifdef WIRED
 static int wired(const char *name, int check) {
@@ -213,6 +231,9 @@ static int call(const char *name, int check) {
 #endif
 #ifdef COMMANDS
     if (number == NONE) number = command(name, check);
+#endif
+#ifdef BALANCE
+    if (number == NONE) number = balance(name, check);
 #endif
 #ifdef WIRED
     if (number == NONE) number = wired(name, check);
