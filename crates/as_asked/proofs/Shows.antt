@@ -42,7 +42,8 @@ shows {A} P f p b a to promise short holds bytes = record {
 
 -- 9 ahead of it, where the record is not sound
 pub soundly-shows : {A : Type 0} (d : BQ769x0) (P : List Made → Answer A → Type 0) (p : Prog (Answer A)) (b : Bus) (y : Answer A) {log′ : List ℕ}
-    (to : Cursor) → (isSound d ≡ false → P [] (refused nine)) → Asks Short p → (isSound d ≡ true → throughout (λ x h. AllBytes h → P h x) p) → Bytes (b .tape)
+    (to : Cursor) → (isSound d ≡ false → P [] (refused nine)) → Asks Short p
+    → (isSound d ≡ true → throughout (λ x h. AllBytes h → P h x) p) → Bytes (b .tape)
     → ran y (b .tape) log′ to ≡ onTape (soundly d (refused nine) p) b
     → Shows P (b .tape) log′ (b .at) to y
 unfolding soundly throughout

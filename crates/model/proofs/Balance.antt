@@ -42,7 +42,8 @@ use Rattle.runs.specs.Calls.{Call, Calls, none-yet, one-more, mostOf, on, leftB
 use Rattle.runs.proofs.Calls.{chip-is, gave-is, alike, by-log}
 use Rattle.runs.proofs.Fine.{Fine}
 use Rattle.model.specs.Balance.{newRegisters, brought, chipLeft, Run, Sets, inputOn, setOn, EndsAlike, FirstNew, Recovers, Survives, Demand3}
-use Rattle.model.proofs.Balanced.{Program, refuses, writes, program, Written, Leaves, length-bytes, some-bytes, few-bytes, set-fine, none-new, leaves}
+use Rattle.model.proofs.Balanced.{Program, refuses, writes, program, Written, Leaves}
+use Rattle.model.proofs.Balanced.{length-bytes, some-bytes, few-bytes, set-fine, none-new, leaves}
 
 -- on whole wires a program does the same on two chips, in step
 pub record EndsSame {A : Type 0} (p : Prog A) (c c′ : Chip) : Type 0 where

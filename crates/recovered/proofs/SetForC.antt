@@ -151,4 +151,5 @@ survives device set limit {call} {c} {cuts} run = record {
 pub demand-3 : (device : List ℕ) (set limit : ℕ) {call : Call Told}
     → ran (call .gave) (call .tape) (call .log′) (call .at′) ≡ onTape (setForC device set limit) (busOf (call .tape) (call .log) (call .at))
     → Demand3 device set limit call
-demand-3 device set limit promise c cuts rest answers room = survives device set limit (record { rest = rest; answers = answers; room = room; promise = promise })
+demand-3 device set limit promise c cuts rest answers room =
+    survives device set limit (record { rest = rest; answers = answers; room = room; promise = promise })

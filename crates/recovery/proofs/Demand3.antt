@@ -68,7 +68,8 @@ module _ {choose : Config → Answer InMv} {config : Config} {c : Chip} where
   unfolding newOf
   left-then (none-yet m) = at-first
   left-then (one-more {d = d} {d′ = d′} {c′ = c′} runs cuts call run) =
-      subst₂ (Leaves choose config d c (newOf (one-more runs cuts call run))) (sym (device-is choose config d′ run refl)) (sym (left-is choose config d′ run refl))
+      subst₂ (Leaves choose config d c (newOf (one-more runs cuts call run)))
+      (sym (device-is choose config d′ run refl)) (sym (left-is choose config d′ run refl))
       (stays choose config d c (matches runs) (newOf runs) d′ (on c′ cuts) (left-then runs))
   left-then (lost runs e m) = begun-again (left-then runs) e
 
@@ -82,7 +83,8 @@ module _ {choose : Config → Answer InMv} {config : Config} {c : Chip} where
   bytes-then : {d d′ : BQ769x0} {c′ : Chip} → Runs choose config c d d′ c′ → Bytes (c .regs) → Bytes (c′ .regs)
   bytes-then (none-yet m) h = h
   bytes-then (one-more {d′ = d′} {c′ = c′} runs cuts call run) h =
-      subst (λ (x : Chip). Bytes (x .regs)) (sym (left-is choose config d′ run refl)) (regs-of-bytes choose config d′ (on c′ cuts) (bytes-then runs h))
+      subst (λ (x : Chip). Bytes (x .regs)) (sym (left-is choose config d′ run refl))
+      (regs-of-bytes choose config d′ (on c′ cuts) (bytes-then runs h))
   bytes-then (lost runs e m) h = bytes-then runs h
 
   module _ {d d′ : BQ769x0} {c′ : Chip} (runs : Runs choose config c d d′ c′) where
@@ -92,11 +94,13 @@ module _ {choose : Config → Answer InMv} {config : Config} {c : Chip} where
 
     same-again : AsAtFirst runs config
     same-again ok second first x y =
-        alike (init-fine choose config d′) (init-fine choose config d) x y (again choose config d c (matches runs) (left-then runs) ok (sound-then runs ok)) (in-step-then ok config)
+        alike (init-fine choose config d′) (init-fine choose config d) x y
+        (again choose config d c (matches runs) (left-then runs) ok (sound-then runs ok)) (in-step-then ok config)
 
     other-anew : (other : Config) (plan : Planned) → planOn choose other c ≡ value plan → AsAtFirst runs other
     other-anew other plan accepted ok second first x y =
-        alike (init-fine choose other d′) (init-fine choose other d) x y (anew choose config d c (matches runs) (left-then runs) ok (sound-then runs ok) other plan accepted) (in-step-then ok other)
+        alike (init-fine choose other d′) (init-fine choose other d) x y
+        (anew choose config d c (matches runs) (left-then runs) ok (sound-then runs ok) other plan accepted) (in-step-then ok other)
 
     other-refused : isSound d ≡ true → (other : Config) (r : Refusal) → planOn choose other c ≡ refused r
         → (call : Call) → Run choose other d′ (uncut c′) call → Refuses runs other r call
