@@ -1,11 +1,13 @@
--- The test decides just soundness; `new` gives a sound record, and the readings have no part in it.
+-- The test decides just soundness; `new` gives a sound record, or refuses with 9 or more; and the readings have no part in it.
 -- Assumes nothing.
 use mathlib.Core.Path.{_≡_, refl, sym, ap, _∙_}
-use mathlib.Core.Bool.{Bool, true, false≢true, _&&_, and-eq-true-iff}
+use mathlib.Core.Bool.{Bool, true, false≢true, not, _&&_, and-eq-true-iff}
 use Prim.Native.Nat.{ℕ}
-use lib.Dec.{leb}
+use native.Mathlib.Omega.{arith}
+use lib.Dec.{leb, ltb}
 use Rattle.refusals.specs.Refusal.{Answer, value, refused}
-use Rattle.refusals.proofs.Values.{refused-not}
+use Rattle.refusals.proofs.Values.{refused-not, NumberedFrom, from-if, from-value}
+use Rattle.sizes.specs.Sizes.{isSize, isCount}
 use Rattle.bus.specs.Raw.{Done}
 use Rattle.bq769x0.specs.Record.{deviceAllowed, fresh, Left, leaves, madeBy, newFor}
 use Rattle.bq769x0.specs.Record.{accepts, calibratedRight, Sound, isSound, withReadings}
@@ -39,6 +41,13 @@ made-sound : (y : Answer Done) (made : BQ769x0) → (y ≡ value tt → isSound 
     → {a : Answer Done} {d : BQ769x0} → leaves a d ≡ madeBy y made → a ≡ value tt → isSound d ≡ true
 made-sound (value done) made sound e t = ap (λ (l : Left Done). isSound (l .device)) e ∙ sound refl
 made-sound (refused r) made sound e t = refused-not (sym (ap (λ (l : Left Done). l .answer) e) ∙ t)
+
+pub refused-from-9 : (x address n : ℕ) → NumberedFrom 9 (deviceAllowed x address n)
+unfolding deviceAllowed
+refused-from-9 x address n =
+    from-if 9 (not (isSize x)) 9 _ (omega arith)
+    (from-if 9 (not (isCount x n)) 10 _ (omega arith)
+    (from-if 9 (ltb 127 address) 11 _ (omega arith) (from-value 9 tt)))
 
 -- the record of an outcome that is not refused
 pub new-sound : (x address n : ℕ) (check : Bool) {a : Answer Done} {d : BQ769x0}

@@ -9,7 +9,7 @@ use lib.Count.{ones}
 use lib.Dec.{ltb}
 use borrow.Author.Tests.{ltb-true, ltb-false}
 use Rattle.refusals.specs.Refusal.{Refusal, Answer, value, refused, no, numberOf, refusedIf}
-use Rattle.refusals.proofs.Values.{refused-not}
+use Rattle.refusals.proofs.Values.{refused-not, NumberedFrom, from-if, from-value}
 use Rattle.cellbal.specs.Rules.{notOnDevice, neighbours, tooMany, allowed}
 use Rattle.cellbal.specs.Broken.{OffDevice, Beside, Exactly}
 use Rattle.cellbal.proofs.Rules.{off-device, beside, not-on-device, are-neighbours}
@@ -30,6 +30,14 @@ keeps x set limit e = by (notOnDevice x set) (neighbours set) (tooMany limit set
     by false true c p q r e = refused-not e
     by false false true p q r e = refused-not e
     by false false false p q r e = record { on-device = p; apart = q; few = r }
+
+-- one that is not is refused with 22 or more
+pub numbered : (x set limit : ℕ) → NumberedFrom 22 (allowed x set limit)
+unfolding allowed
+numbered x set limit =
+    from-if 22 (notOnDevice x set) 22 _ (omega arith)
+    (from-if 22 (neighbours set) 23 _ (omega arith)
+    (from-if 22 (tooMany limit set) 24 _ (omega arith) (from-value 22 tt)))
 
 -- ---- the numbers, where what comes after the rules is refused with none over 21
 module _ (x set limit : ℕ) (two : set < 2 ^ 16) where

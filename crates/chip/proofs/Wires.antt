@@ -1,13 +1,14 @@
 -- The bus's calls on any wire: a read leaves the chip as it was and gives exactly its registers, or where it is cut a refusal; a write
--- leaves a first part of its bytes new, and says done only with all of them. And of a `do` on any wire, what holds after its first call.
+-- leaves a first part of its bytes new, and gives the number 0 only with all of them. And of a `do` on any wire, what holds after its first call.
 -- Assumes nothing.
 use mathlib.Core.Path.{_≡_, refl, sym, ap, subst, _∙_}
 use mathlib.Core.Bool.{Bool, true, false}
 use mathlib.Core.List.{List}
 use mathlib.Core.Option.{Option, none, some}
 use Prim.Native.Nat.{ℕ, _+_, _*_, _≤_, _<_}
+use native.Mathlib.Omega.{arith}
 use lib.ListN.{length, take, replicate, length-replicate}
-use Rattle.refusals.specs.Refusal.{Refusal, Answer, value, refused, answering}
+use Rattle.refusals.specs.Refusal.{Refusal, Answer, value, refused, answering, numberOf}
 use Rattle.refusals.proofs.Values.{refused-not, same-value}
 use Rattle.frames.specs.Frames.{right, readFrame}
 use Rattle.frames.specs.Put.{put}
@@ -89,17 +90,16 @@ module _ (link : Link) (ok : sound link ≡ true) (w : Wired) (m : Matches link 
   -- ---- a write
   module _ (bytes : List ℕ) (other : 0 < reg) (room : reg + length bytes ≤ 256)
       (few : 1 ≤ length bytes) (most : length bytes ≤ 8) where
-    all-done : (cut : Option ℕ) → w .cuts 0 ≡ cut → (x : Done) → onChip (writeRaw link reg bytes) w .answer ≡ value x
+    all-done : (cut : Option ℕ) → w .cuts 0 ≡ cut → numberOf (onChip (writeRaw link reg bytes) w .answer) ≡ 0
         → newBytes (link .check) cut bytes ≡ length bytes
-    all-done none e x v = refl
-    all-done (some j) e x v =
+    all-done none e zero = refl
+    all-done (some j) e zero =
         let off = write-cut link ok w m reg bytes other room few most j e in
-        cc (sym (ap (λ (r : Reached Wired (Answer Done)). r .answer) off) ∙ v)
+        absurd (omega (arith, ap (λ (r : Reached Wired (Answer Done)). numberOf (r .answer)) off, zero))
 
     pub write-any : (onChip (writeRaw link reg bytes) w .device .chip
         ≡ withRegs (w .chip) (put (w .chip .regs) reg (take (newBytes (link .check) (w .cuts 0) bytes) bytes)))
-        × ((x : Done) → onChip (writeRaw link reg bytes) w .answer ≡ value x
-        → newBytes (link .check) (w .cuts 0) bytes ≡ length bytes)
+        × (numberOf (onChip (writeRaw link reg bytes) w .answer) ≡ 0 → newBytes (link .check) (w .cuts 0) bytes ≡ length bytes)
     write-any = (write-leaves link ok w m reg bytes other room few most, all-done (w .cuts 0) refl)
 
 -- ---- a `do`

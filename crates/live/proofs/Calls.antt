@@ -144,7 +144,7 @@ module _ (set limit : ℕ) where
   set-small d = record { fine = set-fine d set limit; makes = by (program d set limit) }
     where
       by : Program d set limit → Makes 2 (balanceSet d set limit)
-      by (refuses r none e) = subst (Makes 2) (sym e) no-more
+      by (refuses r least none e) = subst (Makes 2) (sym e) no-more
       by (writes ok fits new e) = subst (Makes 2) (sym e) (makes-write (d .link) 0x01 (registersFor (d .link .x) set))
 
   job-set-small : (device : List ℕ) → Small Refuses 2 15 (jobBalanceSet device set limit)

@@ -10,7 +10,7 @@ use lib.Dec.{ltb}
 use lib.ListN.{length, take, drop, getD, length-take}
 use lib.Seq.{take-length, getD-take}
 use borrow.Author.Tests.{ltb-true, ltb-false}
-use Rattle.refusals.specs.Refusal.{Answer, value}
+use Rattle.refusals.specs.Refusal.{Answer, value, numberOf}
 use Rattle.check_byte.specs.CheckByte.{Bytes}
 use Rattle.units.specs.Flags.{bit}
 use Rattle.sizes.proofs.Sizes.{by-size}
@@ -61,12 +61,12 @@ module _ (d : BQ769x0) (set limit : ℕ) where
   few-new = by (program d set limit)
     where
       by : Program d set limit → length new ≤ 3
-      by (refuses r none e) = omega (arith, ap length none)
+      by (refuses r least none e) = omega (arith, ap length none)
       by (writes ok fits is e) = omega (arith, ap length is, few-bytes d set limit ok)
 
   new-bytes : Program d set limit → Bytes new
   unfolding registersFor
-  new-bytes (refuses r none e) = subst Bytes (sym none) tt
+  new-bytes (refuses r least none e) = subst Bytes (sym none) tt
   new-bytes (writes ok fits is e) =
       subst Bytes (sym is)
       (by-size (λ x. Bytes (registersFor x set)) (omega arith, tt) (omega arith, (omega arith, tt)) (omega arith, (omega arith, (omega arith, tt)))
@@ -77,7 +77,7 @@ module _ (d : BQ769x0) (set limit : ℕ) where
   new-within other ok = by (program d set limit)
     where
       by : Program d set limit → length new ≤ length (registersFor (d .link .x) other)
-      by (refuses r none e) = omega (arith, ap length none)
+      by (refuses r least none e) = omega (arith, ap length none)
       by (writes sound fits is e) =
           omega (arith, ap length is, length-bytes d set limit ok, length-bytes d other limit ok)
 
@@ -133,7 +133,7 @@ module _ (d : BQ769x0) (set limit : ℕ) where
           ∙ ap (withRegs c) (put-over (c .regs) 0x01 (take n new) (room n) over (omega (arith, new-within other ok, length-take n new)))
 
       by-program : (set′ limit′ : ℕ) → Program d set′ limit′ → (newRegisters d set′ limit′ ≡ [] → c′ ≡ c) → SameEnd (balanceSet d set′ limit′)
-      by-program set′ limit′ (refuses r none e) as-before =
+      by-program set′ limit′ (refuses r least none e) as-before =
           same-chip (balanceSet d set′ limit′) (as-before none)
       by-program set′ limit′ (writes ok fits is e) as-before =
           let over = registersFor (d .link .x) set′ in
@@ -195,7 +195,7 @@ module _ (d : BQ769x0) (set limit : ℕ) where
 
       of-set : (k : ℕ) → k < length (take n new) → Program d set limit → OfSet k
       unfolding registersFor
-      of-set k h (refuses r none e) = absurd (omega (arith, length-take n new, ap length none))
+      of-set k h (refuses r least none e) = absurd (omega (arith, length-take n new, ap length none))
       of-set k h (writes ok fits is e) =
           let count = registerCount (d .link .x) in
           let few : k < count = omega (arith, length-take n new, ap length is, length-bytes d set limit ok) in
@@ -259,32 +259,31 @@ module _ (d : BQ769x0) (set limit : ℕ) where
           anew = λ set′ limit′ fits. alike-by set′ limit′ (anew n (left .chip) set′ limit′ fits);
         }
 
-  -- ---- one call: done, it has written the set
-  module _ (two : set < 2 ^ 16) (c : Chip) (m : Matches (d .link) c) {cuts : ℕ → Option ℕ} {call : Call (Answer Done)}
-      (run : Run d set limit (on c cuts) call) (done : call .gave ≡ value tt) where
+  -- ---- on any wire: with the number 0 it has written the set
+  module _ (two : set < 2 ^ 16) (w : Wired) (m : Matches (d .link) (w .chip))
+      (zero : numberOf (onChip (balanceSet d set limit) w .answer) ≡ 0) where
     abbrev over : List ℕ
     over = registersFor (d .link .x) set
 
-    left : Leaves d set limit (on c cuts) (onChip (balanceSet d set limit) (on c cuts))
-    left = leaves d set limit (on c cuts) m
+    left : Leaves d set limit w (onChip (balanceSet d set limit) w)
+    left = leaves d set limit w m
 
-    written : Written d set limit (brought d set limit cuts)
-    written = left .done (sym (gave-is (set-fine d set limit) run) ∙ done)
+    written : Written d set limit (brought d set limit (w .cuts))
+    written = left .done zero
 
-    all-new : leftBy (on c cuts) call ≡ withRegs c (put (c .regs) 0x01 over)
+    all-new : onChip (balanceSet d set limit) w .device .chip ≡ withRegs (w .chip) (put (w .chip .regs) 0x01 over)
     all-new =
-        chip-is (set-fine d set limit) run
-        ∙ left .chip
-        ∙ ap₂ (λ (n : ℕ) (l : List ℕ). withRegs c (put (c .regs) 0x01 (take n l))) (written .all) (written .new)
-        ∙ ap (λ (l : List ℕ). withRegs c (put (c .regs) 0x01 l)) (take-length over)
+        left .chip
+        ∙ ap₂ (λ (n : ℕ) (l : List ℕ). withRegs (w .chip) (put (w .chip .regs) 0x01 (take n l))) (written .all) (written .new)
+        ∙ ap (λ (l : List ℕ). withRegs (w .chip) (put (w .chip .regs) 0x01 l)) (take-length over)
 
-    set-on : setOn (d .link .x) (leftBy (on c cuts) call) ≡ set
+    pub set-on : setOn (d .link .x) (onChip (balanceSet d set limit) w .device .chip) ≡ set
     set-on =
         let many = length-bytes d set limit (written .ok) in
-        let there : 0x01 + length over ≤ length (c .regs) = omega (arith, few-bytes d set limit (written .ok), m .size) in
+        let there : 0x01 + length over ≤ length (w .chip .regs) = omega (arith, few-bytes d set limit (written .ok), m .size) in
         ap (setOn (d .link .x)) all-new
-        ∙ ap (λ (n : ℕ). setOf (held 0x01 n (put (c .regs) 0x01 over))) (sym many)
-        ∙ ap setOf (held-put 0x01 over (c .regs) there)
+        ∙ ap (λ (n : ℕ). setOf (held 0x01 n (put (w .chip .regs) 0x01 over))) (sym many)
+        ∙ ap setOf (held-put 0x01 over (w .chip .regs) there)
         ∙ back (d .link .x) set (sound-size d (written .ok)) two (keeps (d .link .x) set limit (written .fits) .on-device)
 
 -- ---- whatever came before it
@@ -293,7 +292,9 @@ survives : (d : BQ769x0) (set limit : ℕ) → set < 2 ^ 16 → {c : Chip} {cuts
 survives d set limit two {c} {cuts} {call} run = record {
   run = run;
   by-log = by-log (set-fine d set limit) run;
-  set-on = λ m done. set-on d set limit two c m run done;
+  set-on = λ m done.
+      ap (setOn (d .link .x)) (chip-is (set-fine d set limit) run)
+      ∙ set-on d set limit two (on c cuts) m (ap numberOf (sym (gave-is (set-fine d set limit) run) ∙ done));
   recovers = λ {c₀} m calls. recovers d set limit c₀ m (one-more calls cuts call run);
 }
 

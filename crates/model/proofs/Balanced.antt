@@ -8,10 +8,10 @@ use Prim.Native.Nat.{ℕ, _≤_}
 use native.Mathlib.Omega.{arith}
 use lib.ListN.{length, take}
 use lib.Seq.{take-nil}
-use Rattle.refusals.specs.Refusal.{Refusal, Answer, value, refused, nine}
-use Rattle.refusals.proofs.Values.{refused-not}
+use Rattle.refusals.specs.Refusal.{Refusal, Answer, value, refused, nine, numberOf}
 use Rattle.cellbal.specs.Rules.{allowed}
 use Rattle.cellbal.specs.Registers.{registerCount, registersFor}
+use Rattle.cellbal.proofs.Exactly.{numbered}
 use Rattle.cellbal.proofs.Places.{count-range, length-registers}
 use Rattle.frames.specs.Put.{put}
 use Rattle.frames.proofs.Put.{put-none}
@@ -43,7 +43,7 @@ module _ (d : BQ769x0) (set limit : ℕ) where
   bytes = registersFor x set
 
   pub data Program : Type 0 where
-    refuses : (r : Refusal) → newRegisters d set limit ≡ [] → balanceSet d set limit ≡ ret (refused r) → Program
+    refuses : (r : Refusal) → 1 ≤ r .number → newRegisters d set limit ≡ [] → balanceSet d set limit ≡ ret (refused r) → Program
     writes : isSound d ≡ true → allowed x set limit ≡ value tt → newRegisters d set limit ≡ bytes
         → balanceSet d set limit ≡ writeRaw (d .link) 0x01 bytes → Program
 
@@ -52,8 +52,8 @@ module _ (d : BQ769x0) (set limit : ℕ) where
   program = by (isSound d) refl (allowed x set limit) refl
     where
       by : (t : Bool) → isSound d ≡ t → (y : Answer Done) → allowed x set limit ≡ y → Program
-      by false e y f = refuses nine (rw e) (rw e)
-      by true e (refused r) f = refuses r (rw (e, f)) (rw (e, f))
+      by false e y f = refuses nine (omega arith) (rw e) (rw e)
+      by true e (refused r) f = refuses r (omega (arith, numbered x set limit r f)) (rw (e, f)) (rw (e, f))
       by true e (value done) f = writes e f (rw (e, f)) (rw (e, f))
 
   -- ---- of a sound record: one to three bytes, as many as the device has registers
@@ -76,12 +76,12 @@ module _ (d : BQ769x0) (set limit : ℕ) where
   set-fine = by program
     where
       by : Program → Fine Refuses enough (balanceSet d set limit)
-      by (refuses r none e) = subst (Fine Refuses enough) (sym e) (fine-ret Refuses enough (refused r))
+      by (refuses r least none e) = subst (Fine Refuses enough) (sym e) (fine-ret Refuses enough (refused r))
       by (writes ok fits new e) =
           subst (Fine Refuses enough) (sym e)
           (fine-more (log-enough (d .link .check) (length bytes) (few-bytes ok)) (fine-write (d .link) 0x01 (length bytes) bytes refl))
 
-  -- ---- on any wire: a first part of the bytes is new, and done only where all are
+  -- ---- on any wire: a first part of the bytes is new, and the number is 0 only where all are
   pub record Written (n : ℕ) : Type 0 where
     pub ok : isSound d ≡ true
     pub fits : allowed x set limit ≡ value tt
@@ -90,7 +90,7 @@ module _ (d : BQ769x0) (set limit : ℕ) where
 
   pub record Leaves (w : Wired) (r : Reached Wired (Answer Done)) : Type 0 where
     pub chip : r .device .chip ≡ chipLeft (newRegisters d set limit) (w .chip) (brought d set limit (w .cuts))
-    pub done : r .answer ≡ value tt → Written (brought d set limit (w .cuts))
+    pub done : numberOf (r .answer) ≡ 0 → Written (brought d set limit (w .cuts))
 
   pub none-new : (c : Chip) (n : ℕ) → newRegisters d set limit ≡ [] → chipLeft (newRegisters d set limit) c n ≡ c
   none-new c n e = ap (λ (l : List ℕ). chipLeft l c n) e ∙ none-left c n
@@ -100,9 +100,9 @@ module _ (d : BQ769x0) (set limit : ℕ) where
   leaves w m = by program
     where
       by : Program → Leaves w (onChip (balanceSet d set limit) w)
-      by (refuses r none e) =
+      by (refuses r least none e) =
           subst (λ (p : Prog (Answer Done)). Leaves w (onChip p w)) (sym e)
-          (record { chip = sym (none-new (w .chip) (brought d set limit (w .cuts)) none); done = λ v. refused-not v })
+          (record { chip = sym (none-new (w .chip) (brought d set limit (w .cuts)) none); done = λ zero. absurd (omega arith) })
       by (writes ok fits new e) =
           let left = write-any (d .link) (link-sound d ok) w m 0x01 bytes (omega arith) (omega (arith, few-bytes ok)) (some-bytes ok)
           (omega (arith, few-bytes ok)) in
@@ -112,5 +112,5 @@ module _ (d : BQ769x0) (set limit : ℕ) where
             chip =
                 left .0
                 ∙ sym (ap₂ (λ (n : ℕ) (l : List ℕ). withRegs (w .chip) (put (w .chip .regs) 0x01 (take n l))) many new);
-            done = λ v. record { ok = ok; fits = fits; new = new; all = many ∙ left .1 tt v };
+            done = λ zero. record { ok = ok; fits = fits; new = new; all = many ∙ left .1 zero };
           })

@@ -11,9 +11,9 @@ use Rattle.bus.specs.Programs.{Prog}
 use Rattle.bq769x0.specs.declared.BQ769x0.{BQ769x0}
 use Rattle.chip.specs.OnChip.{Matches, Wired, uncut}
 use Rattle.chip.specs.declared.Chip.{Chip}
-use Rattle.model.specs.Balance.{enough, newRegisters, brought, FirstNew}
+use Rattle.model.specs.Balance.{enough, newRegisters, brought, setOn, FirstNew}
 use Rattle.runs.specs.Calls as runs
-use Rattle.runs.specs.Calls.{Call, OnEveryChip, Calls, one-more, mostOf, on, ByItsLog, Alike}
+use Rattle.runs.specs.Calls.{Call, OnEveryChip, Calls, one-more, mostOf, on, leftBy, ByItsLog, Alike}
 use Rattle.firmware.specs.Handed.{oneNumber, noNumber}
 use Rattle.firmware.specs.JobBalance.{recordOf, jobBalanceSet}
 use Rattle.recovered.specs.ForC.{Told, telling, linkOf}
@@ -58,6 +58,8 @@ pub record Recovers (device : List ℕ) (set limit : ℕ) {c c′ : Chip} (calls
 pub record Survives (device : List ℕ) (set limit : ℕ) (call : Call Told) (c : Chip) (cuts : ℕ → Option ℕ) : Type 0 where
   pub run : Run device set limit (on c cuts) call
   pub by-log : ByItsLog (setForC device set limit) (on c cuts) call
+  -- where it returned 0, the chip has the set on
+  pub set-on : Matches (linkOf device) c → call .gave .number ≡ 0 → setOn (deviceOf device .x) (leftBy (on c cuts) call) ≡ set
   -- whatever calls came before it, from a chip that has the device's address and check setting
   pub recovers : {c₀ : Chip} → Matches (linkOf device) c₀ → (calls : Sets device set limit c₀ c)
       → Recovers device set limit (one-more calls cuts call run)

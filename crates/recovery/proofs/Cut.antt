@@ -9,7 +9,7 @@ use Prim.Native.Nat.{ℕ, zero, suc, _≤_, _<_, max}
 use native.Mathlib.Omega.{arith}
 use lib.Bits.{bitOr}
 use lib.ListN.{length, take, getD}
-use Rattle.refusals.specs.Refusal.{Answer, value, refused, nine}
+use Rattle.refusals.specs.Refusal.{Answer, value, refused, nine, numberOf}
 use Rattle.adc.specs.declared.transfer.AdcTransferFunction.{AdcTransferFunction}
 use Rattle.frames.specs.Put.{put}
 use Rattle.frames.proofs.Put.{put-none}
@@ -135,7 +135,7 @@ module _ (choose : Config → Answer InMv) (config : Config) (d : BQ769x0) (c : 
           let after = subst (Now (max n (new six′)) d″) (sym written) (more-new l m (new six′) some) in
           let w′ = onChip (writeRaw s 6 (plan .regs)) w .device in
           through (Kept (max n (new six′))) _ _ (writeRaw s 6 (plan .regs)) w (λ r p. after) λ x p.
-          let whole : max n (new six′) ≡ 6 = omega (arith, ap new bytes ∙ write .1 x p, all, l .few, ap length bytes) in
+          let whole : max n (new six′) ≡ 6 = omega (arith, ap new bytes ∙ write .1 (ap numberOf p), all, l .few, ap length bytes) in
           subst (λ (k : ℕ). Kept k (onChip (startCounter (withShunt d″ (config .shunt)) (plan .values)) w′)) (sym whole)
           (subst (λ (f : BQ769x0). Kept 6 (onChip (startCounter f (plan .values)) w′)) (sym (marks config (before .recorded)))
           (start-counter-leaves speaks inputs (ap length bytes ∙ all) (plan .values) (l .on) w′
