@@ -108,8 +108,8 @@ module _ (d : BQ769x0) (set limit : ℕ) (two : set < 2 ^ 16) where
   -- by what came of the rules, and what was written
   shown : {h : List Made} {y : Answer Done} → (isSound d ≡ true → Exactly x set limit y)
       → ((r : Refusal) → y ≡ refused r → 22 ≤ r .number → h ≡ [])
-      → (registersWritten (d .link .check) h ≡ []) ⊎ (registersWritten (d .link .check) h ≡ wroteFrom01 d h bytes)
-      → (y ≡ value tt → registersWritten (d .link .check) h ≡ wroteFrom01 d h bytes) → SetAsAsked d h set limit y
+      → (registersWritten (d .link .check) h ≡ []) ⊎ (registersWritten (d .link .check) h ≡ wroteFrom01 d bytes)
+      → (y ≡ value tt → registersWritten (d .link .check) h ≡ wroteFrom01 d bytes) → SetAsAsked d h set limit y
   shown exactly unsent written all =
       record { exactly = exactly; unsent = unsent; bytes = bytes; tables = all-tables x set; written = written; all = all }
 
@@ -150,7 +150,7 @@ module _ (d : BQ769x0) (set limit : ℕ) (two : set < 2 ^ 16) where
 
 -- ---- `balance_get`
 -- an input of the device has its register
-pub in-register : (x i : ℕ) → isSize x ≡ true → 1 ≤ i → i ≤ x → (i - 1) / 5 < registerCount x
+in-register : (x i : ℕ) → isSize x ≡ true → 1 ≤ i → i ≤ x → (i - 1) / 5 < registerCount x
 in-register x i size least =
     by-size (λ y. i ≤ y → (i - 1) / 5 < registerCount y) (λ h. omega arith) (λ h. omega arith) (λ h. omega arith) x size
 

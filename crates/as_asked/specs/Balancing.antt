@@ -34,11 +34,11 @@ blockTable set k = record {
 abbrev pub setTables : ℕ → ℕ → List Table01
 setTables x set = take (registerCount x) (blockTable set 0 ∷ blockTable set 1 ∷ blockTable set 2 ∷ [])
 
-module _ (d : BQ769x0) (seen : List Made) where
-  -- the bytes written from 01 on, and no other register
-  abbrev pub wroteFrom01 : List ℕ → List Access
-  wroteFrom01 bytes = access (d .link .address) 0x01 bytes ∷ []
+-- bytes written from 01 on, and no other register
+abbrev pub wroteFrom01 : BQ769x0 → List ℕ → List Access
+wroteFrom01 d bytes = access (d .link .address) 0x01 bytes ∷ []
 
+module _ (d : BQ769x0) (seen : List Made) where
   pub record SetAsAsked (set limit : ℕ) (y : Answer Done) : Type 0 where
     -- for a sound record 22, 23 and 24 exactly where the set breaks their rules, and then no transfer is made
     pub exactly : isSound d ≡ true → Exactly (d .link .x) set limit y
@@ -46,8 +46,8 @@ module _ (d : BQ769x0) (seen : List Made) where
     -- what is written, if anything is: one register for each five inputs of the device, by the table
     pub bytes : List ℕ
     pub tables : map table01 bytes ≡ setTables (d .link .x) set
-    pub written : (registersWritten (d .link .check) seen ≡ []) ⊎ (registersWritten (d .link .check) seen ≡ wroteFrom01 bytes)
-    pub all : y ≡ value tt → registersWritten (d .link .check) seen ≡ wroteFrom01 bytes
+    pub written : (registersWritten (d .link .check) seen ≡ []) ⊎ (registersWritten (d .link .check) seen ≡ wroteFrom01 d bytes)
+    pub all : y ≡ value tt → registersWritten (d .link .check) seen ≡ wroteFrom01 d bytes
 
   -- accepted, with this set
   pub record AsRead (set : ℕ) : Type 0 where

@@ -3,7 +3,7 @@
 -- Assumes nothing.
 use mathlib.Core.Path.{_≡_, refl, sym, ap, subst, _∙_}
 use mathlib.Core.Logic.{_⊎_, inl, inr}
-use mathlib.Core.Bool.{Bool, true, false, false≢true, not, _&&_, _||_}
+use mathlib.Core.Bool.{Bool, true, false, not, _&&_, _||_, and-eq-true-iff}
 use mathlib.Core.List.{List, [], _∷_, _++_, append-nil}
 use Prim.Native.Nat.{ℕ, suc, _+_, _*_, _≤_}
 use native.Mathlib.Omega.{arith}
@@ -36,15 +36,11 @@ use Rattle.bus.proofs.Throughout.{throughout, throughout-bind, througho
 abbrev pub OfBus : Refusal → Type 0
 OfBus r = not (leb 6 (r .number) && leb (r .number) 8) && leb (r .number) 21 ≡ true
 
-both : (a b : Bool) → a && b ≡ true → (a ≡ true) × (b ≡ true)
-both true b e = (refl, e)
-both false b e = absurd (false≢true e)
-
 pub not-planned : (r : Refusal) → OfBus r → leb 6 (r .number) && leb (r .number) 8 ≡ false
-not-planned r e = not-true (leb 6 (r .number) && leb (r .number) 8) (both _ (leb (r .number) 21) e .0)
+not-planned r e = not-true (leb 6 (r .number) && leb (r .number) 8) (and-eq-true-iff _ (leb (r .number) 21) .0 e .0)
 
 pub up-to-21 : (r : Refusal) → OfBus r → r .number ≤ 21
-up-to-21 r e = leb-true (r .number) 21 (both (not (leb 6 (r .number) && leb (r .number) 8)) _ e .1)
+up-to-21 r e = leb-true (r .number) 21 (and-eq-true-iff (not (leb 6 (r .number) && leb (r .number) 8)) _ .0 e .1)
 
 same-refusal : {A : Type 0} {r x : Refusal} → _≡_ {A = Answer A} (refused r) (refused x) → r ≡ x
 same-refusal {A} e = ap (refusalIn {A = A}) e
@@ -53,7 +49,7 @@ same-refusal {A} e = ap (refusalIn {A = A}) e
 of-stop : (r : Refusal) → leb 15 (r .number) && leb (r .number) 17 ≡ true → OfBus r
 of-stop r h =
     let n = r .number in
-    let range = both (leb 15 n) (leb n 17) h in
+    let range = and-eq-true-iff (leb 15 n) (leb n 17) .0 h in
     let low = leb-true 15 n (range .0) in
     let high = leb-true n 17 (range .1) in
     rw (le-leb 6 n (omega arith), lt-leb n 8 (omega arith), le-leb n 21 (omega arith))

@@ -2,7 +2,7 @@
 -- Assumes nothing.
 use mathlib.Core.Path.{_≡_, refl, sym, ap, _∙_}
 use mathlib.Core.Logic.{_⊎_, inl, inr, ⊎-elim}
-use mathlib.Core.Bool.{Bool, true, false, _&&_, _||_}
+use mathlib.Core.Bool.{Bool, true, false, false≢true, _&&_, _||_, and-eq-true-iff}
 use mathlib.Core.List.{List, [], _∷_}
 use Prim.Native.Nat.{ℕ, zero, suc, _+_, _-_, _/_, _^_, _≤_, _<_}
 use native.Mathlib.Numerals.{add-one}
@@ -14,11 +14,7 @@ use Rattle.cellbal.specs.Rules.{oneOf, notOnDevice, together, neighbours
 use Rattle.cellbal.specs.Broken.{OffDevice, Beside}
 use Rattle.cellbal.proofs.Digits.{below-length}
 
--- ---- two tests
-both : (a : Bool) {b : Bool} → a && b ≡ true → (a ≡ true) × (b ≡ true)
-both true e = (refl, e)
-both false e = let z : _≡_ {A = ℕ} 0 1 = cc in absurd (omega arith)
-
+-- ---- one of two tests
 either : (a : Bool) {b : Bool} → a || b ≡ true → (a ≡ true) ⊎ (b ≡ true)
 either true e = inl refl
 either false e = inr e
@@ -39,7 +35,7 @@ record Among (from n : ℕ) (test : ℕ → Bool) : Type 0 where
   passes : test number ≡ true
 
 among : (from n : ℕ) (test : ℕ → Bool) → oneOf (run from n) test ≡ true → Among from n test
-among from zero test e = let z : _≡_ {A = ℕ} 0 1 = cc in absurd (omega arith)
+among from zero test e = absurd (false≢true e)
 among from (suc n) test e =
     ⊎-elim (λ (here : test from ≡ true). record { number = from; least = omega arith; most = omega arith; passes = here })
     (λ (later : oneOf (run (suc from) n) test ≡ true). let a = among (suc from) n test later in
@@ -66,7 +62,7 @@ module _ (set : ℕ) where
   unfolding notOnDevice
   off-device x e =
       let a = among 1 16 (over x) e in
-      let h = both (ltb x (a .number)) (a .passes) in
+      let h = and-eq-true-iff (ltb x (a .number)) _ .0 (a .passes) in
       record { input = a .number; over = ltb-true x (a .number) (h .0); on = h .1 }
 
   -- ---- 23: a block's test is one of its first four inputs, each with the next
@@ -81,7 +77,7 @@ module _ (set : ℕ) where
       → together set (run from 5) ≡ true → Beside set
   pair-beside from inside e =
       let a = among from 4 pair (sym (by-pairs from 4) ∙ e) in
-      let h = both (isOn set (a .number)) (a .passes) in
+      let h = and-eq-true-iff (isOn set (a .number)) _ .0 (a .passes) in
       let there = inside (a .number) (a .least) (a .most) in
       record {
         input = a .number;
@@ -96,7 +92,7 @@ module _ (set : ℕ) where
   beside e =
       ⊎-elim (pair-beside 1 (λ i l m. (omega arith, omega arith))) (λ more.
       ⊎-elim (pair-beside 6 (λ i l m. (omega arith, omega arith))) (λ more.
-      ⊎-elim (pair-beside 11 (λ i l m. (omega arith, omega arith))) (λ none. let z : _≡_ {A = ℕ} 0 1 = cc in absurd (omega arith))
+      ⊎-elim (pair-beside 11 (λ i l m. (omega arith, omega arith))) (λ none. absurd (false≢true none))
       (either (together set (run 11 5)) more))
       (either (together set (run 6 5)) more))
       (either (together set (run 1 5)) e)

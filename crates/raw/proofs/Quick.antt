@@ -23,8 +23,8 @@ use Rattle.bus.specs.Programs.{Prog, Ran, ran, onTape}
 use Rattle.bus.specs.Raw.{Done, sound, refuses, Read, gives, readRaw, askBack, send, writeRaw}
 use Rattle.bus.specs.declared.Cursor.{Cursor}
 use Rattle.bus.specs.declared.link.Link.{Link}
-use Rattle.bus.proofs.Raws.{checked-goes, read-checked, read-plain, send-goes, write-done, write-back}
-use Rattle.raw.specs.Inside.{answerTo, taken, further, ReadBy, WrittenBy, GotBy, SentBy, EchoedBy}
+use Rattle.bus.proofs.Raws.{zeros, checked-goes, read-checked, read-plain, send-goes, write-done, write-back}
+use Rattle.raw.specs.Inside.{answerTo, taken, further, Reaches, ReadBy, WrittenBy, GotBy, SentBy, EchoedBy}
 use Rattle.raw.specs.declared.transfer.Moved.{Moved}
 use Rattle.raw.specs.declared.transfer.Reply.{Reply}
 use Rattle.raw.specs.declared.transfer.Reply.the-variants.{Made, Stopped}
@@ -210,6 +210,25 @@ module _ (s : Link) (reg : ℕ) (buf : List ℕ) (b : Bus) (ok : sound s ≡ tru
       frame-read (s .address) reg buf b m frame log′ x e (into-zeros zeros (length buf) z (g .0))
       ∙ checked-goes s reg buf b few some within
       ∙ read-checked s reg buf b ok c
+
+  -- so where it is the first part of k zeros
+  module _ (k : ℕ) (most : 2 * length buf ≤ k) where
+    abbrev front : List ℕ
+    front = take (2 * length buf) (replicate k 0)
+
+    front-size : length front ≡ 2 * length buf
+    front-size = ap length (zeros (2 * length buf) k most) ∙ length-replicate (2 * length buf) 0
+
+    module _ {frame log′ : List ℕ} (g : GotBy (read (s .address) reg (length front)) b front true frame log′) where
+      pub front-reaches : Reaches b (3 + 2 * length buf) 7
+      front-reaches = subst (λ (n : ℕ). Reaches b (3 + n) 7) front-size (g .1)
+
+      pub front-well : {x : Read} → s .check ≡ true → length buf ≤ 2 * s .x → (length buf ≡ 0 → ⊥)
+          → x ≡ taken (s .address) buf frame (Made false (length front))
+          → ran x (b .tape) log′ (further (b .at) (3 + 2 * length buf) 7) ≡ onTape (readRaw s reg buf) b
+      front-well {x} c few some e =
+          subst (λ (n : ℕ). ran x (b .tape) log′ (further (b .at) (3 + n) 7) ≡ onTape (readRaw s reg buf) b) front-size
+          (frame-well x c few some (zeros (2 * length buf) k most) g e)
 
 -- ---- writing
 module _ (s : Link) (reg : ℕ) (bytes frame : List ℕ) (b : Bus) {log′ : List ℕ} (ok : sound s ≡ true)

@@ -1,5 +1,5 @@
 -- `raw::few::read_few` meets its contract: done by the short way, or by the long way with nothing touched before. Assumes nothing.
-use mathlib.Core.Path.{_≡_, sym, ap, subst, _∙_}
+use mathlib.Core.Path.{_≡_, sym, ap, _∙_}
 use mathlib.Core.Bool.{true, false, _&&_, and-eq-true-iff}
 use mathlib.Core.Logic.{inl, inr}
 use mathlib.Core.List.{List}
@@ -11,12 +11,9 @@ use lib.Dec.{leb}
 use borrow.Author.Tests.{leb-true, not-true, not-false}
 use denote.Ref.{now}
 use Rattle.bus.specs.Transfers.{Bus, busOf, read}
-use Rattle.bus.specs.Programs.{ran, onTape}
-use Rattle.bus.specs.Raw.{sound, Read, readRaw}
-use Rattle.bus.proofs.Raws.{zeros}
-use Rattle.raw.specs.Inside.{taken, further, GotBy}
-use Rattle.raw.specs.declared.transfer.Reply.the-variants.{Made}
-use Rattle.raw.proofs.Quick.{five, is-got, buf-kept, log-kept, read-same, among-zeros, taken-front, read-well, frame-well}
+use Rattle.bus.specs.Raw.{sound}
+use Rattle.raw.specs.Inside.{GotBy, Reaches}
+use Rattle.raw.proofs.Quick.{five, is-got, buf-kept, log-kept, read-same, among-zeros, taken-front, read-well, front-reaches, front-well}
 use borrow.Author.Needs.{needs}
 use Rattle.raw.proofs.few.read_few.Statement.{statement}
 use Rattle.raw.proofs.few.read_few.Tie as tie
@@ -138,20 +135,11 @@ module _ (c : tie.Then5) where
   got : GotBy (read (s .args .link .address) (s .args .reg) (length zero)) (bus (k (o t))) zero true frame log
   got = is-got _ _ _ _ _ _ (c .if5 .taken) (framed .got2 .ensures)
 
-  tape-room : s .args .at .tape + (3 + 2 * m) ≤ length (now (s .args .tape))
-  tape-room = subst (λ (j : ℕ). s .args .at .tape + (3 + j) ≤ length (now (s .args .tape))) all (got .1 .0)
+  fits : 2 * m ≤ 6
+  fits = omega (arith, three (o t))
 
-  log-room : s .args .at .log + 7 ≤ length (now (s .args .log))
-  log-room = got .1 .1
-
-  checked : {r : Read} → r ≡ taken (s .args .link .address) (bytes (k (o t))) frame (Made false (length zero))
-      → ran r (now (s .args .tape)) log (further (s .args .at) (3 + 2 * m) 7)
-      ≡ onTape (readRaw (s .args .link) (s .args .reg) (bytes (k (o t)))) (bus (k (o t)))
-  checked {r} e =
-      subst (λ (j : ℕ). ran r (now (s .args .tape)) log (further (s .args .at) (3 + j) 7)
-      ≡ onTape (readRaw (s .args .link) (s .args .reg) (bytes (k (o t)))) (bus (k (o t)))) all
-      (frame-well (s .args .link) (s .args .reg) (bytes (k (o t))) (bus (k (o t))) (is-sound (o t)) (within (o t))
-      r (checks t) (few t) (some t) (zeros (2 * m) 6 (omega (arith, three (o t)))) got e)
+  reaches : Reaches (bus (k (o t))) (3 + 2 * m) 7
+  reaches = front-reaches (s .args .link) (s .args .reg) (bytes (k (o t))) (bus (k (o t))) (is-sound (o t)) (within (o t)) 6 fits got
 
 -- ---- the places, each from a later one
 abbrev at-test : tie.After-slice-known6 → tie.Then5
@@ -218,7 +206,7 @@ further-requires-2 : tie.Need-further-requires-2
 further-requires-2 c κs =
     let i = at-test c in
     let fit = sizes (k (o (t i))) in
-    (omega (arith, tape-room i, fit .0), omega (arith, log-room i, fit .1))
+    (omega (arith, reaches i .0, fit .0), omega (arith, reaches i .1, fit .1))
 
 same-length-3 : tie.Need-same-length-3
 same-length-3 c = search needs
@@ -230,8 +218,10 @@ returns-2 : tie.Need-returns-2
 returns-2 c =
     let i = at-test (c .before) in
     let a = s i .args in
+    let then = o (t i) in
     rw (c .further2 .ensures)
-    (checked i
+    (front-well (a .link) (a .reg) (bytes (k then)) (bus (k then)) (is-sound then) (within then) 6 (fits i) (got i)
+    (checks (t i)) (few (t i)) (some (t i))
     (taken-front (a .link .address) (now (a .«data»)) (replicate 6 0) (frame i) (2 * m i) false (2 * m i) (length (zero i)) (size i)
     (c .before .before .before .take-few .ensures)))
 
