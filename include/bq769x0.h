@@ -5,7 +5,8 @@
  *
  * All functions work on bytes in memory and touch nothing else: they read what the bus answered from a tape and write what they
  * sent into a log. Every number in a buffer stands with its high byte first. Millivolts are signed, in two's complement, and bq769x0_i32
- * reads them: UV and OV in job, each cell of list, UV and OV in out, and the figures of refusals 7 and 8. No other number has a sign.
+ * reads them: UV and OV in job, each cell of list, all of spread, UV and OV in out, and the figures of refusals 7 and 8. No other number has
+ * a sign.
  *
  *   job   field 20, the device, and field 21, the configuration: 34 bytes; more are not looked at
  *           20 0004  X (5, 10 or 15), cells, 7-bit address, check bytes (0 or 1)
@@ -18,6 +19,7 @@
  *         takes at most 15, and its reading back 7; bytes that no field takes are left as they were
  *   list  four bytes a cell, in mV, signed: FFFFFFFF is -1 mV; bytes past the count of cells are left as they were
  *   inputs  a byte a cell: the input, from 1, that the cell beside it in list sits on; bytes past the count are left as they were
+ *   spread  BQ769X0_SPREAD bytes: sum, lowest and highest of the cells in list, in mV, signed, four bytes each
  *   out   BQ769X0_OUT bytes, all written whatever the answer
  *
  * No two buffers overlap, but that job or device and tape, which are only read, may. A buffer of length 0 may have any pointer. Every length is a
@@ -38,7 +40,7 @@ extern "C" {
 #endif
 
 /* Counts up where a function, a layout or a number of this header changes; and the Rust crate whose answers these are. */
-#define BQ769X0_VERSION 4
+#define BQ769X0_VERSION 5
 #define BQ769X0_CRATE "0.3.1"
 
 /*
@@ -72,6 +74,11 @@ enum bq769x0_place {
     BQ769X0_FIGURE_2 = 24
 };
 
+/* And where each of spread begins. */
+#define BQ769X0_SPREAD 12
+
+enum bq769x0_spread_place { BQ769X0_SUM_MV = 0, BQ769X0_LOWEST_MV = 4, BQ769X0_HIGHEST_MV = 8 };
+
 /* The number of four bytes, and of eight, that begins at a place. */
 static inline uint32_t bq769x0_u32(const uint8_t *at) {
     return (uint32_t)at[0] << 24 | (uint32_t)at[1] << 16 | (uint32_t)at[2] << 8 | (uint32_t)at[3];
@@ -88,8 +95,8 @@ static inline int32_t bq769x0_i32(const uint8_t *at) {
 
 static inline int32_t bq769x0_millivolts(const uint8_t *list, size_t cell) { return bq769x0_i32(list + 4 * cell); }
 
-/* What the functions return. A refusal leaves list, inputs, cell and seconds as they were, and in log every transfer that was made, the one that
- * faulted or showed the error included. */
+/* What the functions return. A refusal leaves list, inputs, spread, cell and seconds as they were, and in log every transfer that was made, the
+ * one that faulted or showed the error included. */
 enum bq769x0_refusal {
     BQ769X0_OK = 0,
     BQ769X0_CRC_MISMATCH = 1,         /* a check byte of a read disagrees */
@@ -157,9 +164,11 @@ uint8_t bq769x0_init(const uint8_t *job, size_t job_len, const uint8_t *tape, si
 
 /* Sets the device up and, where that is accepted, reads its cells by the datasheet's wiring: each fitted input once, the bottom
  * of the pack first, its number in inputs and its voltage beside it in list. inputs takes a byte a cell, list four: inputs_len and
- * list_len are in bytes. out is as after bq769x0_init, the positions after the reading. */
+ * list_len are in bytes. spread gets sum, lowest and highest of these very cells: highest less lowest is how far they lie apart. out is as
+ * after bq769x0_init, the positions after the reading. */
 uint8_t bq769x0_init_wired(const uint8_t *job, size_t job_len, const uint8_t *tape, size_t tape_len, uint8_t *log, size_t log_len,
-                           uint8_t *inputs, size_t inputs_len, uint8_t *list, size_t list_len, uint8_t out[BQ769X0_OUT]);
+                           uint8_t *inputs, size_t inputs_len, uint8_t *list, size_t list_len, uint8_t spread[BQ769X0_SPREAD],
+                           uint8_t out[BQ769X0_OUT]);
 
 /* Balances a set of inputs, with all others off, on the device of field 20: bit 0 of set is input 1, bit 14 input 15. limit is how many
  * inputs the board lets balance at once. Refused ahead of any transfer: a device as in a job, then BQ769X0_NOT_ON_DEVICE,
@@ -194,7 +203,7 @@ uint8_t bq769x0_cell_on(uint8_t x, uint8_t cells, uint8_t input, uint8_t cell[1]
 uint8_t bq769x0_uv_seconds(uint8_t code, uint8_t seconds[1]);
 uint8_t bq769x0_ov_seconds(uint8_t code, uint8_t seconds[1]);
 
-/* As bq769x0_init_wired, with the list of the Rust crate bq769x0 0.3.1, without the inputs; list_len is in bytes, four a cell. On a
+/* As bq769x0_init_wired, with the list of the Rust crate bq769x0 0.3.1, without inputs and spread; list_len is in bytes, four a cell. On a
  * BQ76920, and on a BQ76940 of 14 or 15 cells, that list shows the inputs of the datasheet's wiring. On a BQ76930 of any count, and on
  * a BQ76940 of 9 to 13, it does not: it shows some input twice and leaves out at least one that carries a cell. */
 uint8_t bq769x0_init_cells(const uint8_t *job, size_t job_len, const uint8_t *tape, size_t tape_len, uint8_t *log, size_t log_len,

@@ -78,6 +78,7 @@ struct bq769x0_live_call {
     size_t inputs_len;
     uint8_t *list;
     size_t list_len;
+    uint8_t *spread;
     uint16_t set;
     uint8_t limit;
 };
@@ -90,7 +91,7 @@ static inline uint8_t bq769x0_live_pass(const struct bq769x0_live_call *call, st
     live->tape[live->tape_len + 2] = 0;
     if (call->calls == BQ769X0_INIT_WIRED)
         return bq769x0_init_wired(call->job, call->job_len, live->tape, tape_len, live->log, sizeof live->log, call->inputs,
-                                  call->inputs_len, call->list, call->list_len, out);
+                                  call->inputs_len, call->list, call->list_len, call->spread, out);
     if (call->calls == BQ769X0_INIT_CELLS)
         return bq769x0_init_cells(call->job, call->job_len, live->tape, tape_len, live->log, sizeof live->log, call->list, call->list_len,
                                   out);
@@ -114,35 +115,35 @@ static inline uint8_t bq769x0_live_passes(const struct bq769x0_live_call *call, 
     }
 }
 
-/* As the functions of bq769x0.h, with a bus in the place of tape and log; the millivolts in job, list and out are signed as there. */
+/* As the functions of bq769x0.h, with a bus in the place of tape and log; the millivolts in job, list, spread and out are signed as there. */
 static inline uint8_t bq769x0_live_init(const uint8_t *job, size_t job_len, const struct bq769x0_bus *bus, struct bq769x0_live *live,
                                         uint8_t out[BQ769X0_OUT]) {
-    struct bq769x0_live_call call = {BQ769X0_INIT, job, job_len, NULL, 0, NULL, 0, 0, 0};
+    struct bq769x0_live_call call = {BQ769X0_INIT, job, job_len, NULL, 0, NULL, 0, NULL, 0, 0};
     return bq769x0_live_passes(&call, bus, live, out);
 }
 
 static inline uint8_t bq769x0_live_init_wired(const uint8_t *job, size_t job_len, const struct bq769x0_bus *bus, struct bq769x0_live *live,
                                               uint8_t *inputs, size_t inputs_len, uint8_t *list, size_t list_len,
-                                              uint8_t out[BQ769X0_OUT]) {
-    struct bq769x0_live_call call = {BQ769X0_INIT_WIRED, job, job_len, inputs, inputs_len, list, list_len, 0, 0};
+                                              uint8_t spread[BQ769X0_SPREAD], uint8_t out[BQ769X0_OUT]) {
+    struct bq769x0_live_call call = {BQ769X0_INIT_WIRED, job, job_len, inputs, inputs_len, list, list_len, spread, 0, 0};
     return bq769x0_live_passes(&call, bus, live, out);
 }
 
 static inline uint8_t bq769x0_live_init_cells(const uint8_t *job, size_t job_len, const struct bq769x0_bus *bus, struct bq769x0_live *live,
                                               uint8_t *list, size_t list_len, uint8_t out[BQ769X0_OUT]) {
-    struct bq769x0_live_call call = {BQ769X0_INIT_CELLS, job, job_len, NULL, 0, list, list_len, 0, 0};
+    struct bq769x0_live_call call = {BQ769X0_INIT_CELLS, job, job_len, NULL, 0, list, list_len, NULL, 0, 0};
     return bq769x0_live_passes(&call, bus, live, out);
 }
 
 static inline uint8_t bq769x0_live_balance_set(const uint8_t *device, size_t device_len, uint16_t set, uint8_t limit,
                                                const struct bq769x0_bus *bus, struct bq769x0_live *live, uint8_t out[BQ769X0_OUT]) {
-    struct bq769x0_live_call call = {BQ769X0_BALANCE_SET, device, device_len, NULL, 0, NULL, 0, set, limit};
+    struct bq769x0_live_call call = {BQ769X0_BALANCE_SET, device, device_len, NULL, 0, NULL, 0, NULL, set, limit};
     return bq769x0_live_passes(&call, bus, live, out);
 }
 
 static inline uint8_t bq769x0_live_balance_get(const uint8_t *device, size_t device_len, const struct bq769x0_bus *bus,
                                                struct bq769x0_live *live, uint8_t out[BQ769X0_OUT]) {
-    struct bq769x0_live_call call = {BQ769X0_BALANCE_GET, device, device_len, NULL, 0, NULL, 0, 0, 0};
+    struct bq769x0_live_call call = {BQ769X0_BALANCE_GET, device, device_len, NULL, 0, NULL, 0, NULL, 0, 0};
     return bq769x0_live_passes(&call, bus, live, out);
 }
 

@@ -2,9 +2,9 @@
 use crate::bus::{lines, Bus, Transfer};
 use crate::crates::balancing;
 use crate::crates::chip::Chip;
-use crate::crates::printed::{cell_on, end, numbers, unsound, Lent};
-use crate::crates::wiring::fitted;
-use crate::job::{is_sound, Job, Kept};
+use crate::crates::printed::{cell_on, end, numbers, spread, unsound, Lent};
+use crate::crates::wiring::{figures, fitted};
+use crate::job::{is_sound, Job, Kept, Wired};
 use bq::*;
 use std::panic::{catch_unwind, AssertUnwindSafe};
 
@@ -32,7 +32,7 @@ where
     if job.address > 127 {
         return "refused 11\n".to_string();
     }
-    let mut running = Running { device, job, bus };
+    let mut running = Running { device, wired: Wired::default(), job, bus };
     if let Some(given) = &job.given {
         running.keep(&given.kept);
     }
@@ -42,6 +42,8 @@ where
 
 struct Running<'a, 'b, const X: usize> {
     device: BQ769x0<X>,
+    /// The part of the record that the crate's device has not.
+    wired: Wired,
     job: &'a Job,
     bus: &'a mut Bus<'b>,
 }
@@ -70,16 +72,18 @@ where
     fn keep(&mut self, kept: &Kept) {
         let cells = std::array::from_fn(|i| MilliVolts(kept.cells[i] as u32));
         self.device.keep(kept.initialised, kept.gain, kept.offset, MicroOhms(kept.shunt), cells);
+        self.wired = kept.wired;
     }
 
-    /// The record. Of the fifteen cells the crate has the first X; no call changes the rest.
+    /// The record. Of its fifteen moved cells the crate has the first X; no call changes the rest.
     fn kept(&self) -> Kept {
         let (initialised, shunt, cells) = self.device.kept();
         let mut all = self.job.given.as_ref().map_or([0; 15], |given| given.kept.cells);
         for (place, cell) in all.iter_mut().zip(cells) {
             *place = signed(cell);
         }
-        Kept { initialised, gain: self.device.adc_gain(), offset: self.device.adc_offset(), shunt: shunt.0, cells: all }
+        let (gain, offset) = (self.device.adc_gain(), self.device.adc_offset());
+        Kept { initialised, gain, offset, shunt: shunt.0, cells: all, wired: self.wired }
     }
 
     /// The line of an answer, or a refusal's number and figures.
@@ -110,6 +114,7 @@ where
             0x35 => return cell_on(value),
             0x36 => return self.balance_set(value),
             0x37 => return self.balance_get(),
+            0x38 => return Ok(spread(&self.wired)),
             _ => device.write_raw(bus, value[0], &value[1..]).map(done),
         }
         .map_err(number)
@@ -133,27 +138,40 @@ where
         if self.device.is_initialized() && list.len() < self.job.cells as usize {
             return Err("19".to_string());
         }
-        let cells = self.device.cell_voltages(self.bus).map_err(number)?;
-        let cells: Vec<i32> = cells.iter().map(|cell| signed(*cell)).collect();
+        let cells = self.reading()?;
         list[..cells.len()].copy_from_slice(&cells);
         Ok(format!("cells{}", numbers(&cells)))
     }
 
-    /// 19 in front, where the crate would not answer 4. The read and what is kept are the crate's; of the reply each fitted input's voltage.
+    /// 19 in front, where the crate would not answer 4. The fitted inputs and their voltages go into the lent lists.
     fn wired(&mut self, lent: &mut Lent) -> Result<String, String> {
         let count = self.job.cells as usize;
         if self.device.is_initialized() && lent.inputs.len().min(lent.list.len()) < count {
             return Err("19".to_string());
         }
-        let field = self.bus.at;
-        self.device.cell_voltages(self.bus).map_err(number)?;
-        let voltages = self.by_input(&self.bus.tape[field + 3..self.bus.at]);
+        self.reading()?;
         let mut line = "wired".to_string();
         for (place, input) in fitted(X, count).into_iter().enumerate() {
-            (lent.inputs[place], lent.list[place]) = (input as u8, voltages[input - 1]);
-            line += &format!(" {input} {}", voltages[input - 1]);
+            let voltage = self.wired.cells[place];
+            (lent.inputs[place], lent.list[place]) = (input as u8, voltage);
+            line += &format!(" {input} {voltage}");
         }
         Ok(line)
+    }
+
+    /// The crate's own list. The read, its refusals and the moved cells kept are the crate's; beside these are kept, from the same reply, each fitted
+    /// input's voltage and their figures. Places past the count stay as they were.
+    fn reading(&mut self) -> Result<Vec<i32>, String> {
+        let field = self.bus.at;
+        let moved = self.device.cell_voltages(self.bus).map_err(number)?.iter().map(|cell| signed(*cell)).collect();
+        let voltages = self.by_input(&self.bus.tape[field + 3..self.bus.at]);
+        let fitted = fitted(X, self.job.cells as usize);
+        let cells = &mut self.wired.cells[..fitted.len()];
+        for (cell, input) in cells.iter_mut().zip(fitted) {
+            *cell = voltages[input - 1];
+        }
+        self.wired.figures = figures(cells);
+        Ok(moved)
     }
 
     /// All inputs' voltages from a read's reply: five at a time, by the crate's own call for a BQ76920 of five cells, which moves none.

@@ -3,7 +3,7 @@ use crate::asked::Asked;
 use crate::bus::Bus;
 use crate::crates::{run, wiring};
 use crate::job::{parse_calls, Job};
-use crate::linked::{over, Left, OUT};
+use crate::linked::{over, Left, OUT, SPREAD};
 
 /// Fields 20 and 21, and field 20 alone.
 const JOB: usize = 34;
@@ -19,8 +19,15 @@ struct Answered<'a> {
     bus: Bus<'a>,
     number: u32,
     five: Vec<u32>,
+    lent: Lent,
+}
+
+/// What a reading stores in the lent buffers.
+#[derive(Default)]
+struct Lent {
     inputs: Vec<u8>,
     cells: Vec<u32>,
+    spread: Vec<u32>,
 }
 
 /// The job of one call that these bytes begin with, and its tape: an init, or a balancing call on the device.
@@ -43,7 +50,7 @@ fn answer(text: &str) -> Result<Answer, String> {
     let words: Vec<&str> = line.split(' ').collect();
     let answer = match words[..] {
         ["init", "range", range, "scd", scd, "ocd", ocd, "uv", uv, "ov", ov] => numbers(&[range, scd, ocd, uv, ov]).map(Answer::Given),
-        ["cells" | "wired", ref cells @ ..] => numbers(cells).map(Answer::Given),
+        ["cells" | "wired" | "spread", ref cells @ ..] => numbers(cells).map(Answer::Given),
         ["balanceget", set] => numbers(&[set, "0", "0", "0", "0"]).map(Answer::Given),
         ["done"] => Some(Answer::Given(vec![0; 5])),
         ["refused", ref refusal @ ..] => numbers(refusal).map(Answer::Refused),
@@ -63,10 +70,11 @@ fn refused<'a>(bus: Bus<'a>, refusal: &[u32]) -> Answered<'a> {
     let mut five = vec![refusal.len() as u32 - 1];
     five.extend(&refusal[1..]);
     five.resize(5, 0);
-    Answered { bus, number: refusal[0], five, inputs: vec![], cells: vec![] }
+    Answered { bus, number: refusal[0], five, lent: Lent::default() }
 }
 
-/// The call; and where it is an init that is accepted and a list is lent, both calls from the start.
+/// The call; and where it is an init that is accepted and a list is lent, both calls from the start, and by the wiring those and the question for the
+/// figures.
 fn answered<'a>(asked: &Asked, overflow_checks: bool) -> Result<Answered<'a>, String> {
     let Some(mut job) = job(asked) else { return Ok(refused(Bus::new(false, &[]), &[15])) };
     let (bus, first) = ran(&job, asked.log, overflow_checks)?;
@@ -74,31 +82,35 @@ fn answered<'a>(asked: &Asked, overflow_checks: bool) -> Result<Answered<'a>, St
         Answer::Given(five) => five,
         Answer::Refused(refusal) => return Ok(refused(bus, &refusal)),
     };
-    let Some(list) = asked.list else { return Ok(Answered { bus, number: 0, five, inputs: vec![], cells: vec![] }) };
+    let Some(list) = asked.list else { return Ok(Answered { bus, number: 0, five, lent: Lent::default() }) };
     let cells = (list / 4) as u8;
     job.calls.push(asked.inputs.map_or((0x22, vec![cells]), |inputs| (0x34, vec![inputs as u8, cells])));
     let (bus, reading) = ran(&job, asked.log, overflow_checks)?;
-    Ok(match reading {
-        Answer::Given(given) if asked.inputs.is_some() => {
-            let (inputs, cells) = given.chunks(2).map(|pair| (pair[0] as u8, pair[1])).unzip();
-            Answered { bus, number: 0, five, inputs, cells }
-        }
-        Answer::Given(cells) => Answered { bus, number: 0, five, inputs: vec![], cells },
-        Answer::Refused(refusal) => refused(bus, &refusal),
-    })
+    let given = match reading {
+        Answer::Given(given) => given,
+        Answer::Refused(refusal) => return Ok(refused(bus, &refusal)),
+    };
+    if asked.inputs.is_none() {
+        return Ok(Answered { bus, number: 0, five, lent: Lent { cells: given, ..Lent::default() } });
+    }
+    job.calls.push((0x38, vec![]));
+    let (bus, Answer::Given(spread)) = ran(&job, asked.log, overflow_checks)? else { panic!("the figures are refused to nobody") };
+    let (inputs, cells) = given.chunks(2).map(|pair| (pair[0] as u8, pair[1])).unzip();
+    Ok(Answered { bus, number: 0, five, lent: Lent { inputs, cells, spread } })
 }
 
 /// What should be left, by the build with overflow checks or the one without; or what the crate does that is no answer.
 pub fn expected(asked: &Asked, overflow_checks: bool) -> Result<Left, String> {
-    let Answered { bus, number, five, inputs, cells } = answered(asked, overflow_checks)?;
+    let Answered { bus, number, five, lent } = answered(asked, overflow_checks)?;
     let bytes = |numbers: &[u32]| numbers.iter().flat_map(|n| n.to_be_bytes()).collect::<Vec<u8>>();
     let used = [bus.at as u64, bus.log_at() as u64].map(|used| used.to_be_bytes()).concat();
     Ok(Left {
         number: number as u8,
         out: over(&[used, bytes(&five)].concat(), OUT),
         log: over(&bus.log, asked.log),
-        inputs: over(&inputs, asked.inputs.unwrap_or(0)),
-        list: over(&bytes(&cells), asked.list.unwrap_or(0)),
+        inputs: over(&lent.inputs, asked.inputs.unwrap_or(0)),
+        list: over(&bytes(&lent.cells), asked.list.unwrap_or(0)),
+        spread: over(&bytes(&lent.spread), SPREAD),
     })
 }
 

@@ -1,4 +1,4 @@
-//! A job of callrun: the device, the calls, the tape; or of staterun, which has field 1E ahead.
+//! A job of callrun: the device, the calls, the tape; or of staterun, which has field 1E ahead, and ahead of that may have field 1D.
 use crate::bus::field;
 
 /// What a record has beside field 20's values.
@@ -8,9 +8,17 @@ pub struct Kept {
     pub offset: i8,
     pub shunt: u32,
     pub cells: [i32; 15],
+    pub wired: Wired,
 }
 
-/// What field 1E gives.
+/// What the crate's record has not: the cells by the wiring, bottom of the pack first, and sum, lowest and highest of as many as the pack has.
+#[derive(Clone, Copy, Default)]
+pub struct Wired {
+    pub cells: [i32; 15],
+    pub figures: [i32; 3],
+}
+
+/// What fields 1D and 1E give.
 pub struct Given {
     pub kept: Kept,
     pub log_size: usize,
@@ -28,9 +36,9 @@ pub struct Job {
     pub tape: Vec<u8>,
 }
 
-/// Whether these bytes are for staterun: they begin with field 1E's tag.
+/// Whether these bytes are for staterun: they begin with the tag of field 1D or 1E.
 pub fn is_given(bytes: &[u8]) -> bool {
-    bytes.first() == Some(&0x1E)
+    matches!(bytes.first(), Some(0x1D | 0x1E))
 }
 
 /// The job these bytes are, of which the first 32,768 count; none if anything else stands ahead of the tape.
@@ -39,16 +47,31 @@ pub fn parse(bytes: &[u8]) -> Option<Job> {
     if !is_given(bytes) {
         return parse_calls(bytes);
     }
-    let (_, value) = field(bytes)?;
-    let given = parse_given(value)?;
+    let (wired, bytes) = parse_wired(bytes)?;
+    let (0x1E, value) = field(bytes)? else { return None };
+    let given = parse_given(value, wired)?;
     let job = parse_calls(&bytes[3 + value.len()..])?;
     Some(Job { given: Some(given), ..job })
 }
 
-fn parse_given(value: &[u8]) -> Option<Given> {
+/// The number in four bytes from a place on.
+fn word(value: &[u8], at: usize) -> u32 {
+    u32::from_be_bytes(value[at..at + 4].try_into().unwrap())
+}
+
+/// What field 1D gives, or zeros without it; and the bytes from field 1E on.
+fn parse_wired(bytes: &[u8]) -> Option<(Wired, &[u8])> {
+    let (0x1D, value) = field(bytes)? else { return Some((Wired::default(), bytes)) };
+    let value: &[u8; 72] = value.try_into().ok()?;
+    let number = |i: usize| word(value, 4 * i) as i32;
+    let wired = Wired { cells: std::array::from_fn(number), figures: std::array::from_fn(|i| number(15 + i)) };
+    Some((wired, &bytes[3 + value.len()..]))
+}
+
+fn parse_given(value: &[u8], wired: Wired) -> Option<Given> {
     let value: &[u8; 88] = value.try_into().ok()?;
     let long = |at: usize| u64::from_be_bytes(value[at..at + 8].try_into().unwrap()) as usize;
-    let word = |at: usize| u32::from_be_bytes(value[at..at + 4].try_into().unwrap());
+    let word = |at: usize| word(value, at);
     if value[0] > 1 || word(68) > 65536 {
         return None;
     }
@@ -58,6 +81,7 @@ fn parse_given(value: &[u8]) -> Option<Given> {
         offset: value[3] as i8,
         shunt: word(4),
         cells: std::array::from_fn(|i| word(8 + 4 * i) as i32),
+        wired,
     };
     Some(Given { kept, log_size: word(68) as usize, tape_at: long(72), log_at: long(80) })
 }
@@ -92,7 +116,7 @@ fn lawful(tag: u8, value: &[u8]) -> bool {
         (0x33, v) => (1..=65).contains(&v.len()),
         (0x34, v) => v.len() == 2,
         (0x35 | 0x36, v) => v.len() == 3,
-        (0x23 | 0x24 | 0x25 | 0x27 | 0x28 | 0x2C | 0x2D | 0x30 | 0x37, v) => v.is_empty(),
+        (0x23 | 0x24 | 0x25 | 0x27 | 0x28 | 0x2C | 0x2D | 0x30 | 0x37 | 0x38, v) => v.is_empty(),
         _ => false,
     }
 }

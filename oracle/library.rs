@@ -53,7 +53,7 @@ fn kind(asked: &Asked) -> usize {
 fn text(left: &Result<Left, String>) -> String {
     match left {
         Ok(left) => {
-            let lists = format!("inputs{}\nlist{}", hex(&left.inputs), hex(&left.list));
+            let lists = format!("inputs{}\nlist{}\nspread{}", hex(&left.inputs), hex(&left.list), hex(&left.spread));
             format!("number {}\nout{}\nlog{}\n{lists}", left.number, hex(&left.out), hex(&left.log))
         }
         Err(line) => line.clone(),

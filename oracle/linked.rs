@@ -3,6 +3,9 @@ use crate::asked::Asked;
 
 pub const OUT: usize = 36;
 
+/// Sum, lowest and highest, four bytes each.
+pub const SPREAD: usize = 12;
+
 /// Bytes on either side of each buffer that a call writes.
 const MARGIN: usize = 8;
 
@@ -14,7 +17,7 @@ extern "C" {
     ) -> u8;
     fn bq769x0_init_wired(
         job: *const u8, job_len: usize, tape: *const u8, tape_len: usize, log: *mut u8, log_len: usize,
-        inputs: *mut u8, inputs_len: usize, list: *mut u8, list_len: usize, out: *mut u8,
+        inputs: *mut u8, inputs_len: usize, list: *mut u8, list_len: usize, spread: *mut u8, out: *mut u8,
     ) -> u8;
     fn bq769x0_balance_set(
         device: *const u8, device_len: usize, set: u16, limit: u8, tape: *const u8, tape_len: usize, log: *mut u8, log_len: usize, out: *mut u8,
@@ -31,6 +34,7 @@ pub struct Left {
     pub log: Vec<u8>,
     pub inputs: Vec<u8>,
     pub list: Vec<u8>,
+    pub spread: Vec<u8>,
 }
 
 /// A buffer of this size and its margins, the bytes by their places, and over them these.
@@ -40,19 +44,25 @@ pub fn over(bytes: &[u8], size: usize) -> Vec<u8> {
     whole
 }
 
+/// The buffers before a call: those too that it is not lent, which it leaves so.
+fn untouched(asked: &Asked) -> Left {
+    let lent = |size: Option<usize>| over(&[], size.unwrap_or(0));
+    let (inputs, list) = (lent(asked.inputs), lent(asked.list));
+    Left { number: 0, out: over(&[], OUT), log: over(&[], asked.log), inputs, list, spread: over(&[], SPREAD) }
+}
+
 /// What the library makes of a call.
 pub fn call(asked: &Asked) -> Left {
     let (job, tape) = (&asked.job[..], &asked.tape[..]);
     let (job, job_len, tape, tape_len) = (job.as_ptr(), job.len(), tape.as_ptr(), tape.len());
-    let lent = |size: Option<usize>| over(&[], size.unwrap_or(0));
-    let mut left = Left { number: 0, out: over(&[], OUT), log: over(&[], asked.log), inputs: lent(asked.inputs), list: lent(asked.list) };
+    let mut left = untouched(asked);
     let (out, log) = (inside(&mut left.out), inside(&mut left.log));
-    let (inputs, list) = (inside(&mut left.inputs), inside(&mut left.list));
+    let (inputs, list, spread) = (inside(&mut left.inputs), inside(&mut left.list), inside(&mut left.spread));
     // Each pointer has at least its length behind it, and what is written overlaps nothing.
     left.number = unsafe {
         match (asked.inputs, asked.list) {
             _ if asked.balance.is_some() => balance(asked, log, out),
-            (Some(m), Some(n)) => bq769x0_init_wired(job, job_len, tape, tape_len, log, asked.log, inputs, m, list, n, out),
+            (Some(m), Some(n)) => bq769x0_init_wired(job, job_len, tape, tape_len, log, asked.log, inputs, m, list, n, spread, out),
             (_, Some(n)) => bq769x0_init_cells(job, job_len, tape, tape_len, log, asked.log, list, n, out),
             _ => bq769x0_init(job, job_len, tape, tape_len, log, asked.log, out),
         }

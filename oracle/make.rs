@@ -1,13 +1,14 @@
 //! Jobs by the throw of a seeded dice: the tape is written while the crate runs the calls, then some jobs are damaged.
 use crate::bus::{field, field_of, Bus, Transfer};
-use crate::crates::run;
-use crate::job::{parse, Given, Kept};
+use crate::crates::{run, wiring};
+use crate::job::{parse, Given, Kept, Wired};
 use crc_any::CRCu8;
 
 /// Past the 32,768 bytes that count, and little enough for a pipe to take whole.
 const LONGEST: usize = 40_000;
 
-/// Where field 1E, ahead of a job, has the log's size.
+/// How long field 1D is, and where field 1E has the log's size.
+const WIRED: usize = 3 + 72;
 const LOG_SIZE_AT: usize = 3 + 68;
 
 pub struct Dice(pub u64);
@@ -68,20 +69,17 @@ fn calls_job(dice: &mut Dice) -> Vec<u8> {
     damaged(dice, bytes)
 }
 
-/// A job behind field 1E, on a tape that may have other bytes ahead.
+/// A job behind field 1E, or 1D and 1E, on a tape that may have other bytes ahead.
 fn given_job(dice: &mut Dice) -> Vec<u8> {
     let mut device = device(dice);
     let chip = [dice.byte(), dice.byte(), dice.byte()];
-    let mut kept = kept(dice);
+    let mut kept = kept(dice, device[1]);
     if dice.percent(20) {
         spoil(dice, &mut device, &mut kept);
     }
     let before = if dice.percent(70) { 0 } else { dice.below(12) };
-    let mut value = given_value(&given(dice, kept, before));
-    if dice.percent(1) {
-        value[0] = dice.byte();
-    }
-    let mut head = field_of(0x1E, &value);
+    let given = given(dice, kept, before);
+    let mut head = given_fields(dice, &given);
     head.extend(calls(dice, device, &chip, 20));
     head.extend(dice.bytes(before));
     let mut bytes = with_tape(dice, head, chip);
@@ -91,19 +89,35 @@ fn given_job(dice: &mut Dice) -> Vec<u8> {
     damaged(dice, bytes)
 }
 
-/// A sound record: as new, calibrated, or set up.
-fn kept(dice: &mut Dice) -> Kept {
-    let cells = std::array::from_fn(|_| if dice.percent(50) { dice.any() as i32 } else { dice.pick(&[0, 1, 4000, -1]) });
+/// Any voltage that a record can hold.
+fn millivolts(dice: &mut Dice) -> i32 {
+    if dice.percent(50) { dice.any() as i32 } else { dice.pick(&[0, 1, 4000, -1]) }
+}
+
+/// The cells by the wiring: with figures that a reading of so many leaves, or with any.
+fn wired(dice: &mut Dice, count: u8) -> Wired {
+    if dice.percent(50) {
+        return Wired { cells: std::array::from_fn(|_| millivolts(dice)), figures: std::array::from_fn(|_| millivolts(dice)) };
+    }
+    // An input reads -128 to 26,078 mV.
+    let cells: [i32; 15] = std::array::from_fn(|_| dice.below(26_207) as i32 - 128);
+    Wired { cells, figures: wiring::figures(&cells[..count.clamp(1, 15) as usize]) }
+}
+
+/// A sound record of so many cells: as new, calibrated, or set up.
+fn kept(dice: &mut Dice, count: u8) -> Kept {
+    let cells = std::array::from_fn(|_| millivolts(dice));
+    let wired = wired(dice, count);
     let gain = if dice.percent(20) { dice.pick(&[365, 396]) } else { 365 + dice.below(32) as u16 };
     let offset = dice.byte() as i8;
     let shunt = match dice.below(10) {
-        0 => return Kept { initialised: false, gain: 0, offset: 0, shunt: 0, cells },
+        0 => return Kept { initialised: false, gain: 0, offset: 0, shunt: 0, cells, wired },
         1..=2 => 0,
         3 => dice.pick(&[1, 2_147_483_647]),
         4 => 1 + dice.below(2_147_483_647) as u32,
         _ => 1 + dice.below(10_000) as u32,
     };
-    Kept { initialised: shunt != 0, gain, offset, shunt, cells }
+    Kept { initialised: shunt != 0, gain, offset, shunt, cells, wired }
 }
 
 /// A record made unsound, mostly, in one place.
@@ -137,6 +151,31 @@ fn given(dice: &mut Dice, kept: Kept, ready: usize) -> Given {
     Given { kept, log_size, tape_at: place(dice, ready), log_at }
 }
 
+/// Field 1E and, in three jobs of five, field 1D ahead that give this; a few have another length, stand where they may not, or are left out.
+fn given_fields(dice: &mut Dice, given: &Given) -> Vec<u8> {
+    let mut value = given_value(given);
+    if dice.percent(1) {
+        value[0] = dice.byte();
+    }
+    let field = field_of(0x1E, &value);
+    let wired = wired_value(&given.kept.wired);
+    let ahead = field_of(0x1D, &wired);
+    match dice.below(200) {
+        0..=79 => field,
+        80 => [field, ahead].concat(),
+        81 => [&ahead[..], &ahead, &field].concat(),
+        82 => [field_of(0x1D, &wired[..dice.below(wired.len())]), field].concat(),
+        83 => [field_of(0x1D, &[&wired[..], &wired[..1 + dice.below(4)]].concat()), field].concat(),
+        84 => ahead,
+        _ => [ahead, field].concat(),
+    }
+}
+
+/// The value of field 1D that gives this.
+fn wired_value(wired: &Wired) -> Vec<u8> {
+    wired.cells.iter().chain(&wired.figures).flat_map(|number| number.to_be_bytes()).collect()
+}
+
 /// The value of field 1E that gives this.
 fn given_value(given: &Given) -> Vec<u8> {
     let kept = &given.kept;
@@ -159,7 +198,8 @@ fn tighten(dice: &mut Dice, bytes: &mut [u8]) {
     let ends = ends(&bus.log);
     if !ends.is_empty() {
         let size = bus.log_from + dice.pick(&ends) - dice.below(2);
-        bytes[LOG_SIZE_AT..LOG_SIZE_AT + 4].copy_from_slice(&(size as u32).to_be_bytes());
+        let at = LOG_SIZE_AT + if bytes[0] == 0x1D { WIRED } else { 0 };
+        bytes[at..at + 4].copy_from_slice(&(size as u32).to_be_bytes());
     }
 }
 
@@ -193,7 +233,7 @@ fn calls(dice: &mut Dice, device: [u8; 4], chip: &Calibration, inits: usize) -> 
             0 => 0x22,
             1 => 0x23,
             2 => 0x34,
-            _ => 0x21 + dice.below(23) as u8,
+            _ => 0x21 + dice.below(24) as u8,
         };
         let value = call(dice, tag, device[0] as usize, chip);
         bytes.extend(field_of(tag, &value));

@@ -1,7 +1,7 @@
 //! The lines of a job that no build of the crate writes: what was lent, the record, the log.
 use crate::bus::{hex, Bus};
 use super::wiring;
-use crate::job::{Job, Kept};
+use crate::job::{Job, Kept, Wired};
 
 /// What a call lends: read_raw's bytes and the cell calls' lists.
 pub struct Lent {
@@ -41,7 +41,8 @@ pub fn numbers<T: std::fmt::Display>(list: &[T]) -> String {
 pub fn end(job: &Job, kept: &Kept, bus: &Bus) -> String {
     let mut text = format!("record {} {} {} {}", job.x, job.cells, job.address, job.check as u8);
     text += &format!(" {} {} {} {}", kept.gain, kept.offset, kept.initialised as u8, kept.shunt);
-    text += &format!("{} tape {} log {}\n", numbers(&kept.cells), bus.at, bus.log_at());
+    text += &(numbers(&kept.cells) + &numbers(&kept.wired.cells) + &numbers(&kept.wired.figures));
+    text += &format!(" tape {} log {}\n", bus.at, bus.log_at());
     if job.given.is_some() {
         text += &format!("log{}\n", hex(&bus.whole_log()));
     }
@@ -54,10 +55,19 @@ pub fn cell_on(value: &[u8]) -> Result<String, String> {
     cell.map(|cell| format!("cellon {cell}")).map_err(|number| number.to_string())
 }
 
-/// What staterun prints for a record that is not sound: each call on it is refused, and nothing changes.
+/// The line of a record's three figures, whatever the record.
+pub fn spread(wired: &Wired) -> String {
+    format!("spread{}", numbers(&wired.figures))
+}
+
+/// What staterun prints for a record that is not sound: each call that asks for a sound one is refused, and nothing changes.
 pub fn unsound(job: &Job, kept: &Kept, bus: &Bus) -> String {
     let line = |tag: u8, value: &[u8]| {
-        let answer = if tag == 0x35 { cell_on(value) } else { Err("9".to_string()) };
+        let answer = match tag {
+            0x35 => cell_on(value),
+            0x38 => Ok(spread(&kept.wired)),
+            _ => Err("9".to_string()),
+        };
         answer.unwrap_or_else(|number| format!("refused {number}")) + "\n" + &Lent::new(tag, value).line(tag, job)
     };
     job.calls.iter().map(|(tag, value)| line(*tag, value)).collect::<String>() + &end(job, kept, bus)

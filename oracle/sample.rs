@@ -11,7 +11,7 @@ use bus::{field, hex};
 use parts::parts;
 
 /// Longer jobs are left to `compare`.
-const LONGEST: usize = 256;
+const LONGEST: usize = 352;
 
 /// How many characters a line of bytes has at most.
 const WIDTH: usize = 150;
@@ -19,6 +19,7 @@ const WIDTH: usize = 150;
 /// How many bytes the numbers of a field have; where it has more of them, they are bytes.
 fn sizes(tag: u8) -> Vec<usize> {
     match tag {
+        0x1D => vec![4; 18],
         0x1E => [vec![1, 2, 1, 4], vec![4; 15], vec![4, 8, 8]].concat(),
         0x21 => vec![4; 5],
         _ => Vec::new(),
@@ -61,18 +62,23 @@ fn lines(margin: &str, parts: &[Vec<String>]) -> Vec<String> {
     lines
 }
 
-/// A job's bytes as lines: field 1E, the rest of the head, and the tape, the bytes ahead of its position apart.
+/// A field with fifteen cells as lines: so many words, the cells, what is left.
+fn around_cells(part: &[u8], ahead: usize) -> Vec<String> {
+    let mut left = words(part);
+    let rows = [("    ", ahead), ("        ", 15), ("        ", usize::MAX)];
+    rows.iter().flat_map(|(margin, count)| lines(margin, &[left.drain(..left.len().min(*count)).collect()])).collect()
+}
+
+/// A job's bytes as lines: fields 1D and 1E, the rest of the head, and the tape, the bytes ahead of its position apart.
 fn laid_out(bytes: &[u8]) -> Vec<String> {
     let job = job::parse(bytes);
     let (mut head, tape) = bytes.split_at(bytes.len() - job.as_ref().map_or(0, |job| job.tape.len()));
     let (ahead, tape) = tape.split_at(job.and_then(|job| job.given).map_or(0, |given| given.tape_at.min(tape.len())));
     let mut all = Vec::new();
-    if let Some((0x1E, value)) = field(head) {
-        let mut left = words(&head[..3 + value.len()]);
-        head = &head[3 + value.len()..];
-        for (margin, count) in [("    ", 6), ("        ", 15), ("        ", left.len())] {
-            all.extend(lines(margin, &[left.drain(..left.len().min(count)).collect()]));
-        }
+    while let Some((tag @ (0x1D | 0x1E), value)) = field(head) {
+        let (part, rest) = head.split_at(3 + value.len());
+        all.extend(around_cells(part, if tag == 0x1D { 2 } else { 6 }));
+        head = rest;
     }
     let ahead = ahead.iter().map(|byte| format!("{byte:02X}")).collect();
     all.extend(lines("    ", &parts(head).into_iter().map(words).collect::<Vec<_>>()));

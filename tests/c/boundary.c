@@ -6,14 +6,14 @@ enum { FIELDS = 8 };
 /* Which of the three functions: without a reading, with one by the crate's list, with one by the wiring. */
 enum reading { NONE, CELLS, WIRED };
 
-/* What a call is given, and what it must leave: answer, positions, five numbers, the log's and both lists' first bytes. */
+/* What a call is given, and what it must leave: answer, positions, five numbers, the log's and both lists' first bytes, and the spread. */
 struct call {
     const char *name;
-    struct lent job, tape, log, inputs, list, out;
+    struct lent job, tape, log, inputs, list, spread, out;
     uint8_t number;
-    size_t tape_used, log_used, inputs_used, list_used;
+    size_t tape_used, log_used, inputs_used, list_used, spread_used;
     uint32_t five[5];
-    uint8_t log_bytes[MOST], inputs_bytes[MOST], list_bytes[MOST];
+    uint8_t log_bytes[MOST], inputs_bytes[MOST], list_bytes[MOST], spread_bytes[BQ769X0_SPREAD];
 };
 
 static uint8_t called(struct call *c, enum reading reading, int null) {
@@ -25,7 +25,8 @@ static uint8_t called(struct call *c, enum reading reading, int null) {
     case CELLS:
         return bq769x0_init_cells(job, c->job.len, tape, c->tape.len, log, c->log.len, list, c->list.len, out);
     default:
-        return bq769x0_init_wired(job, c->job.len, tape, c->tape.len, log, c->log.len, inputs, c->inputs.len, list, c->list.len, out);
+        return bq769x0_init_wired(job, c->job.len, tape, c->tape.len, log, c->log.len, inputs, c->inputs.len, list, c->list.len,
+                                  at(&c->spread), out);
     }
 }
 
@@ -39,6 +40,7 @@ static void made(struct call *c, enum reading reading, int null) {
     same(c->name, "log", &c->log, &before.log, c->log_bytes, c->log_used);
     same(c->name, "inputs", &c->inputs, &before.inputs, c->inputs_bytes, c->inputs_used);
     same(c->name, "list", &c->list, &before.list, c->list_bytes, c->list_used);
+    same(c->name, "spread", &c->spread, &before.spread, c->spread_bytes, c->spread_used);
     same(c->name, "out", &c->out, &before.out, out, BQ769X0_OUT);
     run++;
 }
@@ -86,15 +88,30 @@ static size_t whole_tape(uint8_t *to, size_t count) {
 
 static void refused(struct call *c, uint8_t number, size_t count) {
     c->number = number;
-    c->inputs_used = c->list_used = 0;
+    c->inputs_used = c->list_used = c->spread_used = 0;
     memset(c->five, 0, sizeof c->five);
     transfers(c, count);
 }
 
-/* A reading's cells: voltages in the list, and by the wiring their inputs beside them. */
+/* Sum, lowest and highest. */
+static void spread_of(uint8_t *to, const int32_t *volts, size_t count) {
+    int32_t sum = 0, lowest = volts[0], highest = volts[0];
+    for (size_t i = 0; i < count; i++) {
+        sum += volts[i];
+        if (volts[i] < lowest) lowest = volts[i];
+        if (volts[i] > highest) highest = volts[i];
+    }
+    put(to + BQ769X0_SUM_MV, (uint64_t)sum, 4);
+    put(to + BQ769X0_LOWEST_MV, (uint64_t)lowest, 4);
+    put(to + BQ769X0_HIGHEST_MV, (uint64_t)highest, 4);
+}
+
+/* A reading's cells: voltages in the list, and by the wiring their inputs beside them and the spread. */
 static void cells_read(struct call *c, enum reading reading, const uint8_t *inputs, const int32_t *volts, size_t count) {
     c->inputs_used = reading == WIRED ? count : 0;
     c->list_used = reading == NONE ? 0 : 4 * count;
+    c->spread_used = reading == WIRED ? BQ769X0_SPREAD : 0;
+    spread_of(c->spread_bytes, volts, count);
     memcpy(c->inputs_bytes, inputs, count);
     for (size_t i = 0; i < count; i++)
         put(c->list_bytes + 4 * i, (uint64_t)volts[i], 4);
@@ -112,6 +129,7 @@ static struct call example(const char *name, enum reading reading) {
     lend(&c.log, NULL, 80);
     lend(&c.inputs, NULL, 9);
     lend(&c.list, NULL, 24);
+    lend(&c.spread, NULL, BQ769X0_SPREAD);
     lend(&c.out, NULL, BQ769X0_OUT);
     transfers(&c, count);
     memcpy(c.five, accepted, sizeof accepted);
@@ -152,6 +170,8 @@ static void below_zero(enum reading reading) {
     made(&c, reading, 0);
     must(memcmp(at(&c.list) + 16, last, sizeof last) == 0, c.name, "the last cell");
     must(bq769x0_millivolts(at(&c.list), 4) == -1, c.name, "the last cell's millivolts");
+    must(reading != WIRED || bq769x0_i32(at(&c.spread) + BQ769X0_LOWEST_MV) == -1, c.name, "the lowest cell");
+    must(reading != WIRED || bq769x0_i32(at(&c.spread) + BQ769X0_SUM_MV) == 34205, c.name, "the sum");
 }
 
 /* Every length from 0 up to one short, of the job, the tape and the log; with no pointer where it is 0 too. */

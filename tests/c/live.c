@@ -79,7 +79,7 @@ static struct chip chip_of(int check) {
 }
 
 struct outcome {
-    uint8_t number, inputs[FULL], list[4 * FULL], out[BQ769X0_OUT], log[BQ769X0_LIVE_LOG];
+    uint8_t number, inputs[FULL], list[4 * FULL], spread[BQ769X0_SPREAD], out[BQ769X0_OUT], log[BQ769X0_LIVE_LOG];
 };
 
 static struct outcome blank(void) {
@@ -98,7 +98,7 @@ static struct outcome on_bus(const uint8_t *job, enum bq769x0_calls calls, size_
     struct outcome o = blank();
     switch (calls) {
     case BQ769X0_INIT: o.number = bq769x0_live_init(job, 34, bus, live, o.out); break;
-    case BQ769X0_INIT_WIRED: o.number = bq769x0_live_init_wired(job, 34, bus, live, o.inputs, x, o.list, 4 * x, o.out); break;
+    case BQ769X0_INIT_WIRED: o.number = bq769x0_live_init_wired(job, 34, bus, live, o.inputs, x, o.list, 4 * x, o.spread, o.out); break;
     case BQ769X0_INIT_CELLS: o.number = bq769x0_live_init_cells(job, 34, bus, live, o.list, 4 * x, o.out); break;
     case BQ769X0_BALANCE_SET: o.number = bq769x0_live_balance_set(job, 7, set_of((int)x), 4, bus, live, o.out); break;
     case BQ769X0_BALANCE_GET: o.number = bq769x0_live_balance_get(job, 7, bus, live, o.out); break;
@@ -114,7 +114,7 @@ static struct outcome on_tape(const uint8_t *job, enum bq769x0_calls calls, size
     switch (calls) {
     case BQ769X0_INIT: o.number = bq769x0_init(job, 34, tape, tape_len, o.log, log_len, o.out); break;
     case BQ769X0_INIT_WIRED:
-        o.number = bq769x0_init_wired(job, 34, tape, tape_len, o.log, log_len, o.inputs, x, o.list, 4 * x, o.out);
+        o.number = bq769x0_init_wired(job, 34, tape, tape_len, o.log, log_len, o.inputs, x, o.list, 4 * x, o.spread, o.out);
         break;
     case BQ769X0_INIT_CELLS: o.number = bq769x0_init_cells(job, 34, tape, tape_len, o.log, log_len, o.list, 4 * x, o.out); break;
     case BQ769X0_BALANCE_SET: o.number = bq769x0_balance_set(job, 7, set_of((int)x), 4, tape, tape_len, o.log, log_len, o.out); break;
@@ -129,6 +129,19 @@ static unsigned transfers_of(enum bq769x0_calls calls, int check) {
     return (check ? checked : plain)[calls];
 }
 
+/* What a reading by the wiring gives of a full pack. */
+static void cells(int x, const struct outcome *made) {
+    int32_t sum = 0, lowest = volts_of(0), highest = volts_of(0);
+    for (int i = 0; i < x; i++) {
+        must(made->inputs[i] == i + 1 && bq769x0_millivolts(made->list, (size_t)i) == volts_of(i), "a cell");
+        sum += volts_of(i);
+        if (volts_of(i) < lowest) lowest = volts_of(i);
+        if (volts_of(i) > highest) highest = volts_of(i);
+    }
+    must(bq769x0_i32(made->spread + BQ769X0_SUM_MV) == sum, "the sum");
+    must(bq769x0_i32(made->spread + BQ769X0_LOWEST_MV) == lowest && bq769x0_i32(made->spread + BQ769X0_HIGHEST_MV) == highest, "the spread");
+}
+
 /* What a call without a fault has done. */
 static void done(enum bq769x0_calls calls, int x, const struct chip *chip, const struct outcome *made) {
     static const uint8_t six[6] = {0x13, 0x55, 0x50, 0xB6, 0xCF, 0x19};
@@ -140,14 +153,16 @@ static void done(enum bq769x0_calls calls, int x, const struct chip *chip, const
     } else {
         must(memcmp(chip->regs + 6, six, sizeof six) == 0 && chip->regs[5] == 0x43, "the chip after an init");
     }
-    for (int i = 0; calls == BQ769X0_INIT_WIRED && i < x; i++)
-        must(made->inputs[i] == i + 1 && bq769x0_millivolts(made->list, (size_t)i) == volts_of(i), "a cell");
+    if (calls == BQ769X0_INIT_WIRED) cells(x, made);
     for (size_t i = calls == BQ769X0_BALANCE_SET ? count : 0; i < 3; i++) must(chip->regs[1 + i] == old_regs[i], "another register");
 }
 
-/* And one that a fault has cut: of the registers of a set a first part is new. */
-static void cut(enum bq769x0_calls calls, int x, const struct chip *chip) {
+/* And one that a fault has cut: of the registers of a set a first part is new; lists and spread are as they were lent. */
+static void cut(enum bq769x0_calls calls, int x, const struct chip *chip, const struct outcome *made) {
+    const struct outcome lent = blank();
     size_t fresh = 0;
+    must(memcmp(made->inputs, lent.inputs, sizeof lent.inputs) == 0 && memcmp(made->list, lent.list, sizeof lent.list) == 0, "a list");
+    must(memcmp(made->spread, lent.spread, sizeof lent.spread) == 0, "the spread after a fault");
     while (calls == BQ769X0_BALANCE_SET && fresh < (size_t)x / 5 && chip->regs[1 + fresh] == new_regs[fresh]) fresh++;
     must(memcmp(chip->regs + 1 + fresh, old_regs + fresh, 3 - fresh) == 0, "the registers above the new ones");
 }
@@ -176,7 +191,7 @@ static void call(int x, int check, enum bq769x0_calls calls, unsigned fails_at, 
         done(calls, x, &chip, &made);
     } else {
         must((made.number == BQ769X0_I2C_ERROR || made.number == BQ769X0_CRC_MISMATCH) && chip.made == fails_at, "a call with a fault");
-        cut(calls, x, &chip);
+        cut(calls, x, &chip, &made);
     }
     tried++;
 }

@@ -3,6 +3,7 @@
 /// The boundary. Nothing checks these declarations but the tests below.
 mod bq769x0 {
     pub const OUT: usize = 36;
+    pub const SPREAD: usize = 12;
 
     mod linked {
         extern "C" {
@@ -13,7 +14,7 @@ mod bq769x0 {
             ) -> u8;
             pub fn bq769x0_init_wired(
                 job: *const u8, job_len: usize, tape: *const u8, tape_len: usize, log: *mut u8, log_len: usize,
-                inputs: *mut u8, inputs_len: usize, list: *mut u8, list_len: usize, out: *mut u8,
+                inputs: *mut u8, inputs_len: usize, list: *mut u8, list_len: usize, spread: *mut u8, out: *mut u8,
             ) -> u8;
             pub fn bq769x0_balance_set(
                 device: *const u8, device_len: usize, set: u16, limit: u8, tape: *const u8, tape_len: usize, log: *mut u8, log_len: usize,
@@ -44,11 +45,13 @@ mod bq769x0 {
         }
     }
 
-    pub fn init_wired(job: &[u8], tape: &[u8], log: &mut [u8], inputs: &mut [u8], list: &mut [u8], out: &mut [u8; OUT]) -> u8 {
+    pub fn init_wired(
+        job: &[u8], tape: &[u8], log: &mut [u8], inputs: &mut [u8], list: &mut [u8], spread: &mut [u8; SPREAD], out: &mut [u8; OUT],
+    ) -> u8 {
         unsafe {
             linked::bq769x0_init_wired(
                 job.as_ptr(), job.len(), tape.as_ptr(), tape.len(), log.as_mut_ptr(), log.len(),
-                inputs.as_mut_ptr(), inputs.len(), list.as_mut_ptr(), list.len(), out.as_mut_ptr(),
+                inputs.as_mut_ptr(), inputs.len(), list.as_mut_ptr(), list.len(), spread.as_mut_ptr(), out.as_mut_ptr(),
             )
         }
     }
@@ -170,19 +173,30 @@ fn compare(name: &str, number: u8, out: &[u8; bq769x0::OUT], log: &[u8], left: &
     assert_eq!(log, over(&left.log, log.len()), "{name}: the log");
 }
 
+/// Sum, lowest and highest of what a reading by the wiring gave; else what was lent.
+fn spread_of(left: &Left, reading: Reading) -> Vec<u8> {
+    let Some(lowest) = left.list.iter().min().filter(|_| reading == Wired) else {
+        return vec![FILL; bq769x0::SPREAD];
+    };
+    let highest = left.list.iter().max().unwrap();
+    [left.list.iter().sum::<i32>(), *lowest, *highest].iter().flat_map(|mv| mv.to_be_bytes()).collect()
+}
+
 fn check(name: &str, reading: Reading, job: &[u8], tape: &[u8], room: [usize; 3], left: Left) -> u32 {
     let [mut log, mut inputs, mut list] = room.map(|len| vec![FILL; len]);
+    let mut spread = [FILL; bq769x0::SPREAD];
     let mut out = [FILL; bq769x0::OUT];
     let number = match reading {
         None => bq769x0::init(job, tape, &mut log, &mut out),
         Cells => bq769x0::init_cells(job, tape, &mut log, &mut list, &mut out),
-        Wired => bq769x0::init_wired(job, tape, &mut log, &mut inputs, &mut list, &mut out),
+        Wired => bq769x0::init_wired(job, tape, &mut log, &mut inputs, &mut list, &mut spread, &mut out),
     };
     compare(name, number, &out, &log, &left);
     assert_eq!(inputs, over(&left.inputs, room[1]), "{name}: the inputs");
     assert_eq!(bq769x0::millivolts(&list, left.list.len()), left.list, "{name}: the millivolts");
     let cells: Vec<u8> = left.list.iter().flat_map(|mv| mv.to_be_bytes()).collect();
     assert_eq!(list, over(&cells, room[2]), "{name}: the list");
+    assert_eq!(spread.to_vec(), spread_of(&left, reading), "{name}: the spread");
     1
 }
 

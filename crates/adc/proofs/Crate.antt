@@ -75,8 +75,11 @@ module _ (gain : ℕ) (offset : ℤ) (reading : ℕ) (reads : reading < 65536) (
     pack-few : 4 * gain * reading ≤ 4 * 396 * 65535
     pack-few = product≤ (4 * 396) 65535 (omega arith) (omega arith)
 
+    pub input-between : Between 128 26078 (millivolts gain offset reading)
+    input-between = mv-between (65535 * 396) 1000 offset input-few byte
+
     pub input-range : (negℤ (pos 128) ≤ℤ millivolts gain offset reading) × (millivolts gain offset reading ≤ℤ pos 26078)
-    input-range = in-order 128 26078 (millivolts gain offset reading) (mv-between (65535 * 396) 1000 offset input-few byte)
+    input-range = in-order 128 26078 (millivolts gain offset reading) input-between
 
     pub pack-range : (cells : ℕ) → cells ≤ 15
         → (negℤ (pos 1920) ≤ℤ packMillivolts cells gain offset reading) × (packMillivolts cells gain offset reading ≤ℤ pos 105712)

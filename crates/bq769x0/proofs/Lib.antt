@@ -1,4 +1,5 @@
 pub mod Agree
+pub mod Figures
 pub mod Keeps
 pub mod Sizes
 pub mod Soundly

@@ -14,6 +14,7 @@ use Rattle.bus.specs.Raw.{Done}
 use Rattle.bus.specs.declared.link.Link.{Link}
 use Rattle.adc.specs.declared.transfer.AdcTransferFunction.{AdcTransferFunction}
 use Rattle.units.specs.declared.MicroOhms.{MicroOhms}
+use Rattle.units.specs.declared.MilliVolts.{MilliVolts}
 use Rattle.bq769x0.specs.declared.BQ769x0.{BQ769x0}
 use Rattle.bq769x0.specs.declared.Head.{Head}
 use Rattle.bq769x0.specs.declared.Readings.{Readings}
@@ -26,8 +27,15 @@ unfoldable pub deviceAllowed : ℕ → ℕ → ℕ → Answer Done
 deviceAllowed x address n = ofPack x n (refusedIf (ltb 127 address) 11 (value tt))
 
 -- nothing read yet
+abbrev pub nothing : MilliVolts
+nothing = record { 0 = pos 0 }
+
 abbrev pub unread : Readings
-unread = record { cells = replicate 15 (record { 0 = pos 0 }) }
+unread = record {
+  cells = replicate 15 nothing;
+  wired = replicate 15 nothing;
+  spread = record { sum = nothing; lowest = nothing; highest = nothing };
+}
 
 abbrev pub ofParts : Link → ℕ → AdcTransferFunction → MicroOhms → Bool → BQ769x0
 ofParts link n adc shunt mark = record {

@@ -24,7 +24,15 @@ pub struct Head {
     pub init_complete: bool,
 }
 
-// What the last accepted reading gave.
+// What the last accepted reading gave: the cells by the crate's list and by the wiring, and the figures of the wired ones.
 pub struct Readings {
     pub cells: [MilliVolts; 15],
+    pub wired: [MilliVolts; 15],
+    pub spread: Spread,
+}
+
+pub struct Spread {
+    pub sum: MilliVolts,
+    pub lowest: MilliVolts,
+    pub highest: MilliVolts,
 }

@@ -7,6 +7,7 @@ ghost use Rattle.bq769x0.specs.declared.Readings.{Readings};
 use crate::BQ769x0;
 use crate::Head;
 use crate::Readings;
+use crate::Spread;
 use adc::transfer::AdcTransferFunction;
 use bus::link::Link;
 use refusals::Error;
@@ -133,6 +134,13 @@ impl BQ769x0 {
         self.init_complete
     }
 
+    // Of the pack's cells, as they were read last.
+    pub fn spread(self) -> Spread
+        ensures { λ r. ⌜ r ≡ self .readings .spread ⌝ }
+    {
+        self.readings.spread
+    }
+
     pub fn is_sound(self) -> bool
         ensures { λ r. ⌜ r ≡ isSound self ⌝ }
     {
@@ -240,6 +248,12 @@ fn unread() -> Readings
 {
     Readings {
         cells: [MilliVolts(0); 15],
+        wired: [MilliVolts(0); 15],
+        spread: Spread {
+            sum: MilliVolts(0),
+            lowest: MilliVolts(0),
+            highest: MilliVolts(0),
+        },
     }
 }
 

@@ -3,6 +3,7 @@ ghost use Prim.Native.Nat.{_≤_};
 use crate::registers;
 use adc::counter::CurrentAnswer;
 use bq769x0::BQ769x0;
+use bq769x0::Spread;
 use bus::Cursor;
 use bus::link::RawAnswer;
 use cells::crate_list;
@@ -41,6 +42,7 @@ pub(crate) enum Told {
     Source(TemperatureSource),
     CellOn(u8),
     BalanceGet(u16),
+    Spread(Spread),
 }
 
 // What a lent list of millivolts is full of: no reading gives it.
@@ -113,6 +115,7 @@ pub(crate) fn make(
         0x25 => temperature(device, tape, log, at),
         0x34 => wired(value, device, tape, log, at),
         0x35 => cell_on(value, device, at),
+        0x38 => answered(Told::Spread(device.spread()), device, at),
         _ => registers::make(tag, value, device, tape, log, at),
     }
 }

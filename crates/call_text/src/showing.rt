@@ -2,6 +2,8 @@
 use crate::making::Lent;
 use crate::making::Told;
 use crate::making::size;
+use crate::state;
+use bq769x0::Spread;
 use commands::control::TemperatureSource;
 use measuring::degrees::Temperature;
 
@@ -22,6 +24,7 @@ pub(crate) fn show(told: Told, lent: Lent, count: usize) {
         Told::Source(source) => source_line(source),
         Told::CellOn(cell) => lines::number(b"cellon", cell as u64),
         Told::BalanceGet(set) => lines::number(b"balanceget", set as u64),
+        Told::Spread(figures) => spread(figures),
     }
 }
 
@@ -34,6 +37,12 @@ fn wired(lent: Lent, count: usize) {
     let inputs = lent.inputs;
     let list = lent.list;
     lines::pairs(b"wired", &inputs, &list, count);
+}
+
+fn spread(figures: Spread) {
+    text::words(b"spread");
+    state::figures(figures);
+    text::words(b"\n");
 }
 
 fn degrees(read: Temperature) {

@@ -1,6 +1,7 @@
 // What the calls share, and its line at the end.
 ghost use mathlib.Core.Path.{_≡_};
 use bq769x0::BQ769x0;
+use bq769x0::Spread;
 use bus::Cursor;
 use units::MilliVolts;
 
@@ -52,6 +53,13 @@ fn cells(cells: [MilliVolts; 15]) {
     }
 }
 
+// Sum, lowest, highest.
+pub(crate) fn figures(spread: Spread) {
+    text::signed_number(spread.sum.0);
+    text::signed_number(spread.lowest.0);
+    text::signed_number(spread.highest.0);
+}
+
 impl State {
     pub fn after(self, device: BQ769x0, at: Cursor) -> State
         ensures { λ r. ⌜ (r .device ≡ device) × (r .at ≡ at) × (r .prints ≡ self .prints) ⌝ }
@@ -74,7 +82,10 @@ impl State {
         text::number(bit(device.is_initialized()));
         text::number(device.shunt.0 as u64);
         let held = device.readings.cells;
+        let wired = device.readings.wired;
         cells(held);
+        cells(wired);
+        figures(device.spread());
         text::words(b" tape");
         text::number(at.tape as u64);
         text::words(b" log");

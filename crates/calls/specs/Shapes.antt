@@ -35,6 +35,7 @@ shapes =
     ∷ (0x35, S.Bytes 3)  -- cell_on
     ∷ (0x36, S.Bytes 3)  -- balance_set
     ∷ (0x37, S.Empty)  -- balance_get
+    ∷ (0x38, S.Empty)  -- spread
     ∷ []
 
 abbrev pub shapeIn : List (ℕ × Shape) → ℕ → Shape

@@ -47,7 +47,7 @@ pub enum Shape {
 }
 
 // By their tags from 21.
-const SHAPES: [Shape; 23] = [
+const SHAPES: [Shape; 24] = [
     Shape::Config, // 21 init
     Shape::Bytes(1), // 22 cells
     Shape::Empty, // 23 current
@@ -71,6 +71,7 @@ const SHAPES: [Shape; 23] = [
     Shape::Bytes(3), // 35 cell_on
     Shape::Bytes(3), // 36 balance_set
     Shape::Empty, // 37 balance_get
+    Shape::Empty, // 38 spread
 ];
 
 fn shape_of(tag: u8) -> Shape
@@ -79,7 +80,7 @@ fn shape_of(tag: u8) -> Shape
     if tag < 0x21 {
         return Shape::Unknown;
     }
-    if 0x37 < tag {
+    if 0x38 < tag {
         return Shape::Unknown;
     }
     SHAPES[(tag - 0x21) as usize]

@@ -26,13 +26,15 @@ use Rattle.bus.specs.Raw.{asRaw, readBytes}
 use Rattle.bus.specs.declared.link.RawAnswer.the-variants as R
 use Rattle.bus.proofs.Sized.{bytes-size}
 use Rattle.bq769x0.specs.Record.{isSound}
+use Rattle.bq769x0.specs.Figures.{volts, firstCells}
 use Rattle.bq769x0.specs.declared.BQ769x0.{BQ769x0}
 use Rattle.laws.specs.Over.{_over_}
 use Rattle.moves.specs.Moves.{moves, inTurn, names, inputsOf}
 use Rattle.procedure.specs.Inputs.{converted, asCell, asCells}
-use Rattle.procedure.specs.Cells.{Filled, filled, taking, untouched, volts, firstCells, listed}
+use Rattle.procedure.specs.Taking.{ofInput, voltages, taking}
+use Rattle.procedure.specs.Cells.{Filled, filled, untouched, listed}
 use Rattle.procedure.specs.Cells.{readCells, cellVoltages}
-use Rattle.procedure.specs.Wired.{ofRegisters, ofInput, voltages}
+use Rattle.procedure.specs.Wired.{ofRegisters}
 use Rattle.cells.specs.declared.Cells.{Cells}
 use Rattle.cells.proofs.ByRegisters.{of-input, crateUvOf, registers-crate, registers-range, kth-listed, ByRegisters}
 use Rattle.moves.proofs.CrateList.{at, at-input, shows}

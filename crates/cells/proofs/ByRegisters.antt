@@ -13,7 +13,8 @@ use Rattle.numbers.specs.Numbers.{word}
 use Rattle.refusals.specs.Refusal.{value}
 use Rattle.adc.specs.Conversion.{millivolts}
 use Rattle.adc.specs.Crate.{crateUv, CrateGives}
-use Rattle.adc.proofs.Crate.{input-crate, input-range}
+use Rattle.adc.proofs.Crate.{input-crate, input-between, input-range}
+use Rattle.numbers.proofs.Between.{Between}
 use Rattle.adc.specs.declared.transfer.AdcTransferFunction.{AdcTransferFunction}
 use Rattle.wiring.specs.Tables.{fitted}
 use Rattle.wiring.specs.Blocks.{shorted}
@@ -28,7 +29,8 @@ use Rattle.bq769x0.specs.Record.{isSound}
 use Rattle.bq769x0.specs.declared.BQ769x0.{BQ769x0}
 use Rattle.laws.specs.Over.{_over_}
 use Rattle.procedure.specs.Inputs.{converted}
-use Rattle.procedure.specs.Wired.{highOf, byteOf, ofRegisters, ofInput}
+use Rattle.procedure.specs.Taking.{ofInput}
+use Rattle.procedure.specs.Wired.{highOf, byteOf, ofRegisters}
 use Rattle.procedure.specs.Wired.{Shown, shown, unshown, showing, readWired, wired}
 use Rattle.cells.specs.declared.Cells.{Cells}
 use Rattle.procedure.proofs.Fitted.{of-fitted}
@@ -68,6 +70,9 @@ module _ (adc : AdcTransferFunction) (bytes : List ℕ) (input : ℕ)
   pub registers-crate : CrateGives (crateUvOf adc bytes input) (ofRegisters adc bytes input)
   registers-crate = input-crate (adc .gain) (adc .offset) (reading bytes input) reads byte device
 
+  pub registers-between : Between 128 26078 (ofRegisters adc bytes input)
+  registers-between = input-between (adc .gain) (adc .offset) (reading bytes input) reads byte device
+
   pub registers-range : (negℤ (pos 128) ≤ℤ ofRegisters adc bytes input) × (ofRegisters adc bytes input ≤ℤ pos 26078)
   registers-range = input-range (adc .gain) (adc .offset) (reading bytes input) reads byte device
 
@@ -106,7 +111,7 @@ module _ (d : BQ769x0) (b : Bus) (inputs : List ℕ) (list : List ℤ) where
         fits = refl;
         volts =
             ap (λ (l : List ℤ). l over list)
-            (of-fitted d sound (ofInput (converted (d .adc) bytes)) (ofRegisters (d .adc) bytes)
+            (of-fitted (d .link .x) (d .«cell_count») (sound-pack d sound) (ofInput (converted (d .adc) bytes)) (ofRegisters (d .adc) bytes)
             (λ input low high. of-input (d .adc) bytes (d .link .x) input size low high));
       }
 
@@ -140,6 +145,10 @@ module _ {d : BQ769x0} {b : Bus} {inputs inputs′ : List ℕ} {list list′ : L
     pub kth-crate : CrateGives (crateUvOf (d .adc) (read .bytes) (inputAt x n k)) (getD list′ k (pos 0))
     kth-crate =
         rw kth-voltage (registers-crate (d .adc) (read .bytes) (inputAt x n k) small byte (sound-gain d (read .sound)))
+
+    pub kth-between : Between 128 26078 (getD list′ k (pos 0))
+    kth-between =
+        rw kth-voltage (registers-between (d .adc) (read .bytes) (inputAt x n k) small byte (sound-gain d (read .sound)))
 
     pub kth-range : (negℤ (pos 128) ≤ℤ getD list′ k (pos 0)) × (getD list′ k (pos 0) ≤ℤ pos 26078)
     kth-range =

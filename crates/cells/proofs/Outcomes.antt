@@ -11,7 +11,8 @@ use Rattle.bus.specs.Transfers.{Bus}
 use Rattle.bus.specs.Programs.{ran, onTape}
 use Rattle.bus.specs.Raw.{asRaw}
 use Rattle.bq769x0.specs.declared.BQ769x0.{BQ769x0}
-use Rattle.procedure.specs.Cells.{filled, firstCells, cellVoltages}
+use Rattle.bq769x0.specs.Figures.{firstCells}
+use Rattle.procedure.specs.Cells.{filled, cellVoltages}
 use Rattle.procedure.specs.Wired.{shown, wired}
 use Rattle.procedure.proofs.Shows.{Shows, cells-shown}
 use Rattle.procedure.proofs.Untouched.{Unfilled, cells-unfilled, Unshown, wired-unshown}

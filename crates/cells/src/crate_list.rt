@@ -4,18 +4,20 @@ ghost use Prim.Native.Nat.{_≤_};
 ghost use mathlib.Core.Bool.{true};
 ghost use lib.ListN.{length, take};
 ghost use Rattle.bq769x0.specs.Record.{isSound};
+ghost use Rattle.bq769x0.specs.Figures.{firstCells};
 ghost use Rattle.laws.specs.Over.{_over_};
 ghost use Rattle.bus.specs.Lent.{does};
 ghost use Rattle.bus.specs.Raw.{asRaw};
-ghost use Rattle.procedure.specs.Cells.{filled, firstCells, handedBack, readCells, cellVoltages};
+ghost use Rattle.procedure.specs.Cells.{filled, handedBack, readCells, cellVoltages};
 use crate::Cells;
 use crate::inputs;
+use crate::taking;
 use bq769x0::BQ769x0;
-use bq769x0::Readings;
 use bus::Cursor;
 use bus::link::RawAnswer;
 use refusals::Error;
 use units::MilliVolts;
+use wiring::tables;
 
 pub fn cell_voltages(
     device: BQ769x0,
@@ -60,11 +62,9 @@ fn read_cells(device: BQ769x0, list: &mut [i32], tape: &[u8], log: &mut [u8], at
             at: next,
         };
     };
-    moves::in_turn(x, cell_count, &mut inputs);
+    let fitted = tables::fitted(x, cell_count);
+    let readings = taking::taken(x, cell_count, fitted, device.readings, &mut inputs);
     list_first(cell_count as usize, &inputs, list);
-    let held = device.readings.cells;
-    let cells = crate::stored(x as usize, &inputs, held);
-    let readings = Readings { cells };
     Cells {
         answer,
         device: device.store_readings(readings),

@@ -1,6 +1,7 @@
 // All of the chip's inputs, read at once and converted to millivolts.
 ghost use mathlib.Core.Path.{_≡_};
 ghost use Prim.Native.Nat.{_+_, _≤_};
+ghost use lib.IntN.{natAbs};
 ghost use lib.ListN.{length};
 ghost use Rattle.numbers.specs.Numbers.{word};
 ghost use Rattle.adc.specs.Conversion.{millivolts};
@@ -64,7 +65,7 @@ fn convert_eight(adc: AdcTransferFunction, buf: &[u8; 32], k: usize, cells: &mut
 // As `AdcTransferFunction::apply`, of a gain that registers give or none: an i32 holds it.
 fn millivolts(adc: AdcTransferFunction, high: u8, low: u8) -> i32
     requires { ⌜ adc .gain ≤ 396 ⌝ }
-    ensures { λ r. ⌜ r ≡ millivolts (adc .gain) (adc .offset) (word high low) ⌝ }
+    ensures { λ r. ⌜ (r ≡ millivolts (adc .gain) (adc .offset) (word high low)) × (natAbs r ≤ 27000) ⌝ }
 {
     let reading = numbers::be_u16(high, low) as i32;
     (reading * adc.gain as i32 + adc.offset as i32 * 1000) / 1000

@@ -8,11 +8,12 @@ ghost use Rattle.bus.specs.Lent.{does};
 ghost use Rattle.bus.specs.Raw.{asRaw};
 ghost use Rattle.bq769x0.specs.Record.{isSound};
 ghost use Rattle.laws.specs.Over.{_over_};
-ghost use Rattle.procedure.specs.Wired.{shown, ofInput, readWired, wired};
+ghost use Rattle.procedure.specs.Taking.{ofInput};
+ghost use Rattle.procedure.specs.Wired.{shown, readWired, wired};
 use crate::Cells;
 use crate::inputs;
+use crate::taking;
 use bq769x0::BQ769x0;
-use bq769x0::Readings;
 use bus::Cursor;
 use bus::link::RawAnswer;
 use refusals::Error;
@@ -74,10 +75,7 @@ fn read_wired(
     };
     let fitted = tables::fitted(x, cell_count);
     show(cell_count as usize, fitted, &millivolts, inputs, list);
-    moves::in_turn(x, cell_count, &mut millivolts);
-    let held = device.readings.cells;
-    let cells = crate::stored(x as usize, &millivolts, held);
-    let readings = Readings { cells };
+    let readings = taking::taken(x, cell_count, fitted, device.readings, &mut millivolts);
     Cells {
         answer,
         device: device.store_readings(readings),

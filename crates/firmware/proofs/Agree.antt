@@ -73,14 +73,15 @@ list-agree x h h′ list list′ e e′ =
     )
 
 -- `bq769x0_init_wired`
-pub both-agree : (x : HandedBoth) (h h′ : Handed) (inputs inputs′ list list′ : List ℕ)
-    → handedBoth h inputs list ≡ x → handedBoth h′ inputs′ list′ ≡ x
-    → (h ≡ h′) × (inputs ≡ inputs′) × (list ≡ list′)
-both-agree x h h′ inputs inputs′ list list′ e e′ =
+pub both-agree : (x : HandedBoth) (h h′ : Handed) (inputs inputs′ list list′ spread spread′ : List ℕ)
+    → handedBoth h inputs list spread ≡ x → handedBoth h′ inputs′ list′ spread′ ≡ x
+    → (h ≡ h′) × (inputs ≡ inputs′) × (list ≡ list′) × (spread ≡ spread′)
+both-agree x h h′ inputs inputs′ list list′ spread spread′ e e′ =
     let same = e ∙ sym e′ in (
       ap (λ (y : HandedBoth). y .handed .handed) same,
       ap (λ (y : HandedBoth). y .inputs) same,
       ap (λ (y : HandedBoth). y .handed .list) same,
+      ap (λ (y : HandedBoth). y .spread) same,
     )
 
 -- `bq769x0_cell_on`, `bq769x0_uv_seconds`, `bq769x0_ov_seconds`

@@ -149,10 +149,10 @@ cells-range bytes list b =
     laid-in (onTape (jobCells bytes list) b .answer .left .answer) _
     (on-tape ListedIn (jobCells bytes list) (cells-in bytes list) b)
 
-pub wired-range : (bytes inputs list : List ℕ) (b : Bus)
+pub wired-range : (bytes inputs list lent : List ℕ) (b : Bus)
     → accepts (onTape (jobWired bytes inputs list) b .answer .listed .left .answer) ≡ true
-    → numberAt (asBoth (onTape (jobWired bytes inputs list) b) .handed .handed .out) 16 < 2
+    → numberAt (asBoth lent (onTape (jobWired bytes inputs list) b) .handed .handed .out) 16 < 2
 unfolding BesideIn ListedIn
-wired-range bytes inputs list b =
+wired-range bytes inputs list lent b =
     laid-in (onTape (jobWired bytes inputs list) b .answer .listed .left .answer) _
     (on-tape BesideIn (jobWired bytes inputs list) (wired-in bytes inputs list) b)

@@ -2,7 +2,7 @@
 -- Beside the list, of four bytes a cell, the caller lends a byte a cell for the inputs.
 -- Assumes nothing.
 use Prim.Native.Nat.{ℕ}
-use mathlib.Core.List.{List}
+use mathlib.Core.List.{List, [], _∷_}
 use lib.IntN.{pos}
 use lib.ListN.{replicate}
 use Rattle.refusals.specs.Refusal.{Refusal, Answer, value, refused}
@@ -12,6 +12,7 @@ use Rattle.bq769x0.specs.Record.{Left}
 use Rattle.bq769x0.specs.declared.BQ769x0.{BQ769x0}
 use Rattle.procedure.specs.Wired.{Shown, wired}
 use Rattle.job_setup.specs.JobInit.{jobInit}
+use Rattle.layout.specs.Cells.{cellBytes}
 use Rattle.firmware.specs.Handed.{Handed}
 use Rattle.firmware.specs.JobCells.{Listed, listed, roomFor, storing, HandedList, asList}
 
@@ -44,13 +45,28 @@ unfoldable pub jobWired : List ℕ → List ℕ → List ℕ → Prog Beside
 jobWired bytes inputs list =
     bind (jobInit bytes) λ (left : Left Values). onlyReady inputs list (left .device) (left .answer)
 
--- ---- what C is given, and its lists
+-- ---- what C is given, its lists, and the twelve bytes of the spread
+-- sum, lowest and highest, four bytes each; a refusal leaves what was lent
+abbrev pub spreadIn : List ℕ → BQ769x0 → Answer Values → List ℕ
+spreadIn lent d (value values) =
+    let spread = d .readings .spread in
+    cellBytes (spread .sum .0 ∷ spread .lowest .0 ∷ spread .highest .0 ∷ [])
+spreadIn lent d (refused r) = lent
+
 pub record HandedBoth : Type 0 where
   pub handed : HandedList
   pub inputs : List ℕ
+  pub spread : List ℕ
 
-abbrev pub handedBoth : Handed → List ℕ → List ℕ → HandedBoth
-handedBoth h inputs list = record { handed = record { handed = h; list = list }; inputs = inputs }
+abbrev pub handedBoth : Handed → List ℕ → List ℕ → List ℕ → HandedBoth
+handedBoth h inputs list spread = record { handed = record { handed = h; list = list }; inputs = inputs; spread = spread }
 
-abbrev pub asBoth : Ran Beside → HandedBoth
-asBoth r = record { handed = asList (record { answer = r .answer .listed; bus = r .bus }); inputs = r .answer .inputs }
+-- by the twelve bytes as they were lent
+abbrev pub asBoth : List ℕ → Ran Beside → HandedBoth
+asBoth lent r =
+    let listed = r .answer .listed in
+    record {
+      handed = asList (record { answer = listed; bus = r .bus });
+      inputs = r .answer .inputs;
+      spread = spreadIn lent (listed .left .device) (listed .left .answer);
+    }

@@ -15,6 +15,7 @@ ghost use Rattle.protection.specs.Delays.{uvTimes, ovTimes};
 ghost use Rattle.wiring.specs.Questions.{cellOn};
 use crate::byte::store_seconds;
 use crate::crate_list::read_cells;
+use crate::spread::store_spread;
 use crate::wired::read_wired;
 use bq769x0::BQ769x0;
 use bus::link::RawAnswer;
@@ -30,6 +31,7 @@ mod balancing;
 mod byte;
 mod crate_list;
 mod list;
+mod spread;
 mod told;
 mod wired;
 
@@ -101,7 +103,8 @@ pub fn init_wired(
     read_wired(values, device, inputs, list, tape, log, at)
 }
 
-// For C: as `bq769x0_init_cells`, by the wiring, with each cell's input in inputs; a refusal leaves both as they were.
+// For C: as `bq769x0_init_cells`, by the wiring, with each cell's input in inputs, and sum, lowest and highest in spread; a refusal leaves all
+// three buffers as they were.
 #[no_mangle]
 pub extern "C" fn bq769x0_init_wired(
     job: &[u8],
@@ -109,15 +112,18 @@ pub extern "C" fn bq769x0_init_wired(
     log: &mut [u8],
     inputs: &mut [u8],
     list: &mut [u8],
+    spread: &mut [u8; 12],
     out: &mut [u8; 36],
 ) -> u8
-    ensures { λ r. ⌜ handedBoth (handed r (now (out .exit)) (now (log .exit))) (now (inputs .exit)) (now (list .exit))
-        ≡ asBoth (onTape (jobWired (now (job .entry)) (now (inputs .entry)) (now (list .entry)))
+    ensures { λ r. ⌜ handedBoth (handed r (now (out .exit)) (now (log .exit))) (now (inputs .exit)) (now (list .exit)) (now (spread .exit))
+        ≡ asBoth (now (spread .entry)) (onTape (jobWired (now (job .entry)) (now (inputs .entry)) (now (list .entry)))
         (lentBus tape log start)) ⌝ }
 {
     let done = init_wired(job, tape, log, inputs, list);
     let answer = done.answer;
+    let device = done.device;
     let at = done.at;
+    store_spread(answer, device, spread);
     lay_out(out, at, answer.in_numbers());
     answer.number()
 }

@@ -1,4 +1,4 @@
--- Cells in the caller's list of bytes: four a cell, in two's complement, high byte first.
+-- Millivolts in the caller's bytes: four each, in two's complement, high byte first.
 -- Assumes nothing.
 use Prim.Native.Nat.{ℕ, _*_}
 use mathlib.Core.Bool.{Bool, _&&_}

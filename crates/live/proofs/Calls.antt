@@ -36,7 +36,7 @@ use Rattle.firmware.specs.JobBalance.{recordOf, jobBalanceSet, jobBalanceGet}
 use Rattle.firmware.specs.JobCells as by-list
 use Rattle.firmware.specs.JobCells.{Listed, storing, HandedList, jobCells, asList}
 use Rattle.firmware.specs.JobWired as by-wiring
-use Rattle.firmware.specs.JobWired.{Beside, HandedBoth, jobWired, asBoth}
+use Rattle.firmware.specs.JobWired.{Beside, jobWired, spreadIn, HandedBoth, asBoth}
 use Rattle.firmware.proofs.Positions.{tape-position, log-position}
 use Rattle.chip.specs.Live.{Used, usedBy}
 use Rattle.chip.proofs.Live.{live}
@@ -97,6 +97,10 @@ module _ (list : List ℕ) where
       → storing n mvs list values d y .list ≡ list
   stored-off n mvs values d y (refuses-by r) = refl
 
+  stored-refuses : (n : ℕ) (mvs : List ℤ) (values : Values) (d : BQ769x0) (y : Answer Done) → Refuses y
+      → Refuses (storing n mvs list values d y .left .answer)
+  stored-refuses n mvs values d y (refuses-by r) = refuses-by r
+
   ready-small : (d : BQ769x0) (y : Answer Values) → Small ListedOff 1 7 (by-list.onlyReady list d y)
   unfolding by-list.readCells
   ready-small d (value values) =
@@ -116,7 +120,7 @@ module _ (list : List ℕ) where
 
   module _ (inputs : List ℕ) where
     abbrev BesideOff : Beside → Type 0
-    BesideOff a = (a .inputs ≡ inputs) × (a .listed .list ≡ list)
+    BesideOff a = (a .inputs ≡ inputs) × (a .listed .list ≡ list) × Refuses (a .listed .left .answer)
 
     ready-wired-small : (d : BQ769x0) (y : Answer Values) → Small BesideOff 1 7 (by-wiring.onlyReady inputs list d y)
     unfolding by-wiring.readWired
@@ -126,11 +130,12 @@ module _ (list : List ℕ) where
         (λ read q. over (
           q .1,
           stored-off (d .«cell_count») (read .list) values (read .device) (read .answer) (q .0),
+          stored-refuses (d .«cell_count») (read .list) values (read .device) (read .answer) (q .0),
         ))
     ready-wired-small d (refused r) = small-ret BesideOff 1 7 _
 
     unready-wired : (d : BQ769x0) (y : Answer Values) → Refuses y → Over BesideOff (by-wiring.onlyReady inputs list d y)
-    unready-wired d y (refuses-by r) = over (refl, refl)
+    unready-wired d y (refuses-by r) = over (refl, refl, refuses-by r)
 
     job-wired-small : (job : List ℕ) → Small BesideOff 8 59 (jobWired job inputs list)
     unfolding jobWired
@@ -185,6 +190,10 @@ as-used numbers b =
 init-used : (r : Ran (Left Values)) → usedOf (asC r) ≡ usedBy r
 init-used r = as-used (initNumbers (r .answer .answer)) (r .bus)
 
+-- a refusal writes no spread
+unwritten : (lent : List ℕ) (d : BQ769x0) (y : Answer Values) → Refuses y → spreadIn lent d y ≡ lent
+unwritten lent d y (refuses-by r) = refl
+
 module _ (job tape log : List ℕ) where
   pub init-live : {o : Handed} → o ≡ asC (onTape (jobInit job) (busOf tape log start)) → InitLive job tape log o
   init-live is = small-goes (job-small job) asC usedOf init-used (λ h. Done) (λ r q. tt) 8 52 (omega arith) (omega arith) tape log _ is
@@ -196,12 +205,15 @@ module _ (job tape log : List ℕ) where
       (λ r. init-used (record { answer = r .answer .left; bus = r .bus })) (λ o. o .list ≡ list) (λ r q. q) 9 59 (omega arith) (omega arith)
       tape log _ is
 
-  pub wired-live : (inputs list : List ℕ) {o : HandedBoth} → o ≡ asBoth (onTape (jobWired job inputs list) (busOf tape log start))
-      → WiredLive job inputs list tape log o
-  wired-live inputs list is =
-      small-goes (job-wired-small list inputs job) asBoth (λ o. usedOf (o .handed .handed))
+  pub wired-live : (inputs list spread : List ℕ) {o : HandedBoth}
+      → o ≡ asBoth spread (onTape (jobWired job inputs list) (busOf tape log start))
+      → WiredLive job inputs list spread tape log o
+  wired-live inputs list spread is =
+      small-goes (job-wired-small list inputs job) (asBoth spread) (λ o. usedOf (o .handed .handed))
       (λ r. init-used (record { answer = r .answer .listed .left; bus = r .bus }))
-      (λ o. (o .inputs ≡ inputs) × (o .handed .list ≡ list)) (λ r q. q) 9 59 (omega arith) (omega arith) tape log _ is
+      (λ o. (o .inputs ≡ inputs) × (o .handed .list ≡ list) × (o .spread ≡ spread))
+      (λ r q. (q .0, q .1, unwritten spread (r .answer .listed .left .device) (r .answer .listed .left .answer) (q .2)))
+      9 59 (omega arith) (omega arith) tape log _ is
 
 module _ (device tape log : List ℕ) where
   pub set-live : (set limit : ℕ) {o : Handed} → o ≡ asDone (onTape (jobBalanceSet device set limit) (busOf tape log start))

@@ -43,17 +43,17 @@ module _ {A O : Type 0} (p : Prog A) (given : Ran A → O) (used : O → Used) (
 abbrev pub usedOf : Handed → Used
 usedOf h = record { tape = tapeUsed (h .out); log = logUsed (h .out); bytes = h .log }
 
--- ---- the calls: in at most so many passes, with so many bytes of log; the lists stay as they were until the last pass
+-- ---- the calls: in at most so many passes, with so many bytes of log; lists and spread stay as they were until the last pass
 abbrev pub InitLive : List ℕ → List ℕ → List ℕ → Handed → Type 0
 InitLive job = OnEveryBus (jobInit job) asC usedOf (λ h. Done) 8 52
 
 abbrev pub CellsLive : List ℕ → List ℕ → List ℕ → List ℕ → HandedList → Type 0
 CellsLive job list = OnEveryBus (jobCells job list) asList (λ o. usedOf (o .handed)) (λ o. o .list ≡ list) 9 59
 
-abbrev pub WiredLive : List ℕ → List ℕ → List ℕ → List ℕ → List ℕ → HandedBoth → Type 0
-WiredLive job inputs list =
-    OnEveryBus (jobWired job inputs list) asBoth (λ o. usedOf (o .handed .handed))
-    (λ o. (o .inputs ≡ inputs) × (o .handed .list ≡ list)) 9 59
+abbrev pub WiredLive : List ℕ → List ℕ → List ℕ → List ℕ → List ℕ → List ℕ → HandedBoth → Type 0
+WiredLive job inputs list spread =
+    OnEveryBus (jobWired job inputs list) (asBoth spread) (λ o. usedOf (o .handed .handed))
+    (λ o. (o .inputs ≡ inputs) × (o .handed .list ≡ list) × (o .spread ≡ spread)) 9 59
 
 abbrev pub SetLive : List ℕ → ℕ → ℕ → List ℕ → List ℕ → Handed → Type 0
 SetLive device set limit = OnEveryBus (jobBalanceSet device set limit) asDone usedOf (λ h. Done) 3 15

@@ -24,12 +24,14 @@ fn init_wired(
     log: &mut [u8],
     inputs: &mut [u8],
     list: &mut [u8],
+    spread: &mut [u8; 12],
     out: &mut [u8; 36],
 ) -> u8
-    ensures { λ r. ⌜ WiredLive (now (job .entry)) (now (inputs .entry)) (now (list .entry)) (now (tape .entry)) (now (log .entry))
-        (handedBoth (handed r (now (out .exit)) (now (log .exit))) (now (inputs .exit)) (now (list .exit))) ⌝ }
+    ensures { λ r. ⌜ WiredLive (now (job .entry)) (now (inputs .entry)) (now (list .entry)) (now (spread .entry)) (now (tape .entry))
+        (now (log .entry))
+        (handedBoth (handed r (now (out .exit)) (now (log .exit))) (now (inputs .exit)) (now (list .exit)) (now (spread .exit))) ⌝ }
 {
-    firmware::bq769x0_init_wired(job, tape, log, inputs, list, out)
+    firmware::bq769x0_init_wired(job, tape, log, inputs, list, spread, out)
 }
 
 fn balance_set(

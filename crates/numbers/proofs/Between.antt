@@ -6,7 +6,7 @@ use Prim.Native.Nat.{ℕ, zero, suc, _+_, _-_, _*_, _/_, _≤_, _<_}
 use native.Mathlib.Nat.{mul-le-mul, le-refl, le-trans, le-div-iff-mul-le, div-mul-le-self}
 use native.Mathlib.Omega.{arith}
 use lib.Dec.{ltb, le→leb}
-use lib.IntN.{ℤ, pos, negsuc, negℤ, _+ℤ_, _*ℤ_}
+use lib.IntN.{ℤ, pos, negsuc, negℤ, _+ℤ_, _*ℤ_, +ℤ-comm}
 use lib.Signed.{mag, _≤ℤ_, leZ-yes}
 use borrow.Author.Tests.{ltb-true, ltb-false}
 use Rattle.numbers.specs.Numbers.{_÷_}
@@ -33,6 +33,20 @@ of-sum {up} most low high (negsuc n) few h = by-test (ltb up (suc n)) refl
         let more : suc n ≤ up = ltb-false up (suc n) e in
         subst⁻¹ (Between low (most + high)) (above up (suc n) more) (omega arith)
 
+pub wider : {low high : ℕ} (least most : ℕ) (z : ℤ) → low ≤ least → high ≤ most → Between low high z → Between least most z
+wider least most (pos n) l h b = le-trans b h
+wider least most (negsuc n) l h b = le-trans b l
+
+-- of two numbers with a sign
+pub of-add : (low low′ high high′ : ℕ) (y z : ℤ) → Between low high y → Between low′ high′ z → Between (low + low′) (high + high′) (y +ℤ z)
+of-add low low′ high high′ (pos m) (pos n) h k = omega arith
+of-add low low′ high high′ (pos m) (negsuc n) h k =
+    wider (low + low′) (high + high′) (pos m +ℤ negsuc n) (omega arith) (omega arith) (of-sum high low′ high′ (negsuc n) h k)
+of-add low low′ high high′ (negsuc m) (pos n) h k =
+    subst⁻¹ (Between (low + low′) (high + high′)) (+ℤ-comm (negsuc m) (pos n))
+    (wider (low + low′) (high + high′) (pos n +ℤ negsuc m) (omega arith) (omega arith) (of-sum high′ low high (negsuc m) k h))
+of-add low low′ high high′ (negsuc m) (negsuc n) h k = omega arith
+
 pub of-product : (low high m : ℕ) (z : ℤ) → Between low high z → Between (low * m) (high * m) (z *ℤ pos m)
 of-product low high m (pos n) h = mul-le-mul h (le-refl m)
 of-product low high m (negsuc n) h = of-neg (low * m) (high * m) (suc n * m) (mul-le-mul h (le-refl m))
@@ -48,10 +62,6 @@ of-quotient low high d (negsuc n) some h = of-neg (low / d) (high / d) (suc n / 
 pub of-byte : (z : ℤ) → mag z < 128 → Between 128 127 z
 of-byte (pos n) h = omega arith
 of-byte (negsuc n) h = omega arith
-
-pub wider : {low high : ℕ} (least most : ℕ) (z : ℤ) → low ≤ least → high ≤ most → Between low high z → Between least most z
-wider least most (pos n) l h b = le-trans b h
-wider least most (negsuc n) l h b = le-trans b l
 
 -- as an order
 pub in-order : (low high : ℕ) (z : ℤ) → Between low high z → (negℤ (pos low) ≤ℤ z) × (z ≤ℤ pos high)

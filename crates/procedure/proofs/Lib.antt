@@ -2,6 +2,8 @@ pub mod Converted
 pub mod Examples
 pub mod Fitted
 pub mod Keeps
+pub mod Sound
+pub mod Fits
 pub mod Moved
 pub mod Reading
 pub mod Shows

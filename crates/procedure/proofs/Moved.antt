@@ -1,5 +1,5 @@
--- The record's cells by the inputs moved before they are stored: a sound record's pack has no move that reaches past the device's inputs,
--- and no more cells than these.
+-- The crate's list by the inputs moved before they are stored: no pack has a move that reaches past the device's inputs, and none more cells than
+-- these.
 -- Assumes nothing.
 use mathlib.Core.Path.{_≡_, refl, sym, ap, _∙_}
 use mathlib.Core.Bool.{true}
@@ -17,32 +17,26 @@ use Rattle.wiring.proofs.Packs.{of-pack}
 use Rattle.moves.specs.Moves.{Move, moves, inTurn}
 use Rattle.moves.proofs.CrateList.{turned-map}
 use Rattle.moves.proofs.Front.{inFront, length-turned, turned-front}
-use Rattle.bq769x0.specs.Record.{isSound, withReadings}
-use Rattle.bq769x0.specs.declared.BQ769x0.{BQ769x0}
-use Rattle.bq769x0.proofs.Sizes.{sound-pack}
+use Rattle.sizes.specs.Sizes.{isCount}
+use Rattle.bq769x0.specs.Figures.{volts, firstCells}
+use Rattle.bq769x0.specs.declared.Readings.{Readings}
 use Rattle.procedure.specs.Inputs.{asCell, asCells}
-use Rattle.procedure.specs.Cells.{volts, firstCells, taking}
+use Rattle.procedure.specs.Taking.{taken}
 
 -- numbers as cells, and those as numbers
-as-held : (l : List ℤ) → map volts (asCells l) ≡ l
+pub as-held : (l : List ℤ) → map volts (asCells l) ≡ l
 as-held [] = refl
 as-held (mv ∷ l) = ap (λ (r : List ℤ). mv ∷ r) (as-held l)
 
-module _ (d : BQ769x0) (sound : isSound d ≡ true) where
-  abbrev x : ℕ
-  x = d .link .x
-
-  abbrev n : ℕ
-  n = d .«cell_count»
-
+module _ (x n : ℕ) (pack : T (isCount x n)) (held : Readings) where
   abbrev all : List Move
   all = moves x n
 
   no-more : n ≤ x
-  no-more = leb→le n x (of-pack (λ y m. leb m y) tt x n (sound-pack d sound))
+  no-more = leb→le n x (of-pack (λ y m. leb m y) tt x n pack)
 
   in-front : T (inFront x all)
-  in-front = of-pack (λ y m. inFront y (moves y m)) tt x n (sound-pack d sound)
+  in-front = of-pack (λ y m. inFront y (moves y m)) tt x n pack
 
   -- what the code's steps say: the first X numbers are the readings', the moves were made on all of them
   module _ (readings inputs moved : List ℤ) (room : x ≤ length inputs)
@@ -60,28 +54,20 @@ module _ (d : BQ769x0) (sound : isSound d ≡ true) where
         ∙ ap (take x) (turned-front (pos 0) all x readings rest size in-front)
         ∙ take-at (inTurn (pos 0) all readings) rest x (length-turned (pos 0) all readings ∙ size)
 
-    stored : asCells (take x moved) over d .readings .cells ≡ taking d readings .readings .cells
+    pub stored : asCells (take x moved) over held .cells ≡ taken x n held readings .cells
     stored =
-        let held = d .readings .cells in
         let none = asCell (pos 0) in
         let cells = length-map readings asCell in
-        ap (λ (l : List ℤ). asCells l over held) first
-        ∙ ap (λ (l : List MilliVolts). l over held) (sym (turned-map asCell (pos 0) all readings))
-        ∙ ap (λ (k : ℕ). inTurn none all (asCells readings) ++ drop k held) (length-turned none all (asCells readings))
-        ∙ sym (turned-front none all x (asCells readings) (drop (length (asCells readings)) held) (cells ∙ size) in-front)
-
-    -- so the record is as either call leaves it
-    pub taken : {cells : List MilliVolts} {left : BQ769x0}
-        → cells ≡ asCells (take x moved) over d .readings .cells
-        → left ≡ withReadings d (record { cells = cells })
-        → left ≡ taking d readings
-    taken e f = f ∙ ap (λ (l : List MilliVolts). withReadings d (record { cells = l })) (e ∙ stored)
+        ap (λ (l : List ℤ). asCells l over held .cells) first
+        ∙ ap (λ (l : List MilliVolts). l over held .cells) (sym (turned-map asCell (pos 0) all readings))
+        ∙ ap (λ (k : ℕ). inTurn none all (asCells readings) ++ drop k (held .cells)) (length-turned none all (asCells readings))
+        ∙ sym (turned-front none all x (asCells readings) (drop (length (asCells readings)) (held .cells)) (cells ∙ size) in-front)
 
     -- and its first cells are the first of the moved numbers
-    pub listed-first : take n moved ≡ firstCells n (taking d readings .readings .cells)
+    pub listed-first : take n moved ≡ firstCells n (taken x n held readings .cells)
     listed-first =
         let front = asCells (take x moved) in
-        let behind = drop (length front) (d .readings .cells) in
+        let behind = drop (length front) (held .cells) in
         let enough : n ≤ length front =
         omega (arith, no-more, size, ap length first, length-turned (pos 0) all readings, length-map (take x moved) asCell) in
         sym (take-take n x moved no-more)

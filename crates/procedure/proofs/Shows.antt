@@ -9,9 +9,11 @@ use lib.ListN.{length}
 use Rattle.refusals.specs.Refusal.{value}
 use Rattle.bus.specs.Transfers.{Bus}
 use Rattle.bus.specs.Programs.{Ran, onTape}
+use Rattle.bq769x0.specs.Figures.{firstCells}
 use Rattle.bq769x0.specs.declared.BQ769x0.{BQ769x0}
 use Rattle.laws.specs.Over.{_over_}
-use Rattle.procedure.specs.Cells.{Filled, taking, untouched, firstCells, listed, readCells, cellVoltages}
+use Rattle.procedure.specs.Taking.{taking}
+use Rattle.procedure.specs.Cells.{Filled, untouched, listed, readCells, cellVoltages}
 use Rattle.procedure.proofs.Reading.{by-call}
 
 module _ (d : BQ769x0) (list : List ℤ) where

@@ -10,7 +10,8 @@ use Rattle.refusals.specs.Refusal.{Refusal, refused}
 use Rattle.bus.specs.Transfers.{Bus}
 use Rattle.bus.specs.Programs.{Ran, onTape}
 use Rattle.bq769x0.specs.declared.BQ769x0.{BQ769x0}
-use Rattle.procedure.specs.Cells.{Filled, taking, untouched, listed, readCells, cellVoltages}
+use Rattle.procedure.specs.Taking.{taking}
+use Rattle.procedure.specs.Cells.{Filled, untouched, listed, readCells, cellVoltages}
 use Rattle.procedure.specs.Wired.{Shown, unshown, showing, readWired, wired}
 use Rattle.procedure.proofs.Reading.{by-call}
 

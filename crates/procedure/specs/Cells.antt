@@ -2,29 +2,21 @@
 -- Assumes nothing.
 use Prim.Native.Nat.{ℕ}
 use mathlib.Core.Bool.{not, _||_}
-use mathlib.Core.List.{List, [], map}
+use mathlib.Core.List.{List, []}
 use lib.Dec.{ltb}
-use lib.IntN.{ℤ, pos}
-use lib.ListN.{length, take}
+use lib.IntN.{ℤ}
+use lib.ListN.{length}
 use Rattle.refusals.specs.Refusal.{Refusal, Answer, value, refused, refusedIf, nine}
 use Rattle.units.specs.declared.MilliVolts.{MilliVolts}
 use Rattle.laws.specs.Choice.{if_then_else_}
 use Rattle.laws.specs.Over.{_over_}
 use Rattle.bus.specs.Programs.{Prog, ret, _orLeave_, _>>=_}
 use Rattle.bus.specs.Raw.{Done}
-use Rattle.bq769x0.specs.Record.{withReadings}
+use Rattle.bq769x0.specs.Figures.{firstCells}
 use Rattle.bq769x0.specs.Registers.{soundly}
 use Rattle.bq769x0.specs.declared.BQ769x0.{BQ769x0}
-use Rattle.moves.specs.Moves.{moves, inTurn}
-use Rattle.procedure.specs.Inputs.{asCell, asCells, readInputs}
-
--- the record with a reading of all inputs in it, the moves made; the places after them keep what they held
-abbrev pub taking : BQ769x0 → List ℤ → BQ769x0
-taking d inputs =
-    withReadings d
-    (record {
-      cells = inTurn (asCell (pos 0)) (moves (d .link .x) (d .«cell_count»)) (asCells inputs over d .readings .cells);
-    })
+use Rattle.procedure.specs.Inputs.{readInputs}
+use Rattle.procedure.specs.Taking.{taking}
 
 -- an answer, and the record and the caller's list then
 pub record Filled : Type 0 where
@@ -42,13 +34,6 @@ untouched d list r = filled (refused r) d list
 -- 4 before 19
 abbrev pub ready : BQ769x0 → ℕ → Answer Done
 ready d room = refusedIf (not (d .«init_complete»)) 4 (refusedIf (ltb room (d .«cell_count»)) 19 (value tt))
-
--- the first n cells, in mV
-abbrev pub volts : MilliVolts → ℤ
-volts cell = cell .0
-
-abbrev pub firstCells : ℕ → List MilliVolts → List ℤ
-firstCells n cells = take n (map volts cells)
 
 abbrev pub listed : BQ769x0 → List ℤ → Filled
 listed d list = filled (value tt) d (firstCells (d .«cell_count») (d .readings .cells) over list)

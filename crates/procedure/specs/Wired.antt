@@ -2,8 +2,8 @@
 -- once, bottom of the pack first, with its number beside it.
 -- Assumes nothing.
 use Prim.Native.Nat.{ℕ, _+_, _-_, _*_, min}
-use mathlib.Core.List.{List, map}
-use lib.IntN.{ℤ, pos}
+use mathlib.Core.List.{List}
+use lib.IntN.{ℤ}
 use lib.ListN.{length, getD}
 use Rattle.laws.specs.Over.{_over_}
 use Rattle.numbers.specs.Numbers.{word}
@@ -16,7 +16,8 @@ use Rattle.bus.specs.Raw.{Done}
 use Rattle.bq769x0.specs.Registers.{soundly}
 use Rattle.bq769x0.specs.declared.BQ769x0.{BQ769x0}
 use Rattle.procedure.specs.Inputs.{readInputs}
-use Rattle.procedure.specs.Cells.{taking, ready}
+use Rattle.procedure.specs.Taking.{voltages, taking}
+use Rattle.procedure.specs.Cells.{ready}
 
 -- ---- an input's voltage by its two registers: VC1_HI is 0C, VC1_LO 0D, and so on
 abbrev pub highOf : ℕ → ℕ
@@ -43,13 +44,6 @@ shown a d inputs list = record { answer = a; device = d; inputs = inputs; list =
 -- nothing of record and lists is touched
 abbrev pub unshown : BQ769x0 → List ℕ → List ℤ → Refusal → Shown
 unshown d inputs list r = shown (refused r) d inputs list
-
--- of a reading of all inputs that of one, from 1
-abbrev pub ofInput : List ℤ → ℕ → ℤ
-ofInput readings input = getD readings (input - 1) (pos 0)
-
-abbrev pub voltages : ℕ → ℕ → List ℤ → List ℤ
-voltages x n readings = map (ofInput readings) (fitted x n)
 
 -- the record as the crate's call leaves it
 abbrev pub showing : BQ769x0 → List ℕ → List ℤ → List ℤ → Shown

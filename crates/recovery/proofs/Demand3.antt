@@ -15,7 +15,7 @@ use Rattle.bq769x0.specs.Record.{Left, leaving, isSound}
 use Rattle.bq769x0.specs.Registers.{soundly}
 use Rattle.bq769x0.specs.declared.BQ769x0.{BQ769x0}
 use Rattle.procedure.specs.Init.{initBy}
-use Rattle.procedure.proofs.Keeps.{init-keeps}
+use Rattle.procedure.proofs.Sound.{init-sound}
 use Rattle.chip.specs.Devices.{Reached, reached, onDevice}
 use Rattle.chip.specs.OnChip.{Matches, Wired, uncut, onChip}
 use Rattle.chip.specs.declared.Chip.{Chip}
@@ -77,7 +77,7 @@ module _ {choose : Config → Answer InMv} {config : Config} {c : Chip} where
   sound-then (none-yet m) ok = ok
   sound-then (one-more {d′ = d′} runs cuts call run) ok =
       ap (λ (r : Ran (Left Values)). isSound (r .answer .device)) (run .promise)
-      ∙ init-keeps choose d′ config (busOf (call .tape) (call .log) (call .at)) (sound-then runs ok)
+      ∙ init-sound choose d′ config (busOf (call .tape) (call .log) (call .at)) (sound-then runs ok)
   sound-then (lost runs e m) ok = ok
 
   bytes-then : {d d′ : BQ769x0} {c′ : Chip} → Runs choose config c d d′ c′ → Bytes (c .regs) → Bytes (c′ .regs)

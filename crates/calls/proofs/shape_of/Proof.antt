@@ -15,7 +15,7 @@ returns c = sym (before _ (c .if1 .taken))
 returns-2 : tie.Need-returns-2
 returns-2 c =
     let tag = c .before .before .args .tag in
-    let past : 23 ≤ tag - 0x21 = omega arith in
+    let past : 24 ≤ tag - 0x21 = omega arith in
     sym (from tag (omega arith) ∙ List·getD-eq-default inTurn S.Unknown past)
 
 cast-result : tie.Need-cast-result

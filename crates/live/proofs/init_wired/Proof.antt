@@ -20,7 +20,7 @@ abbrev at-call : tie.After-slice-known6 → tie.After-bq769x0-init-wired
 at-call c = (c .before .before .before) .before .before .before
 
 returns : tie.Need-returns
-returns c = wired-live _ _ _ _ _ (at-call c .bq769x0-init-wired .ensures)
+returns c = wired-live _ _ _ _ _ _ (at-call c .bq769x0-init-wired .ensures)
 
 pub init-wired-spec : {M : Type 1} → statement M
 init-wired-spec = tie.close (tie.spec bq769x0-init-wired-requires same-length same-length-2 same-length-3 returns)

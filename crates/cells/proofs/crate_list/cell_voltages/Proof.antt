@@ -12,7 +12,8 @@ use Rattle.bus.specs.Transfers.{Bus, busOf}
 use Rattle.bus.specs.Programs.{Ran, onTape}
 use Rattle.bq769x0.specs.Record.{isSound}
 use Rattle.bq769x0.specs.declared.BQ769x0.{BQ769x0}
-use Rattle.procedure.specs.Cells.{Filled, taking, untouched, listed, readCells, cellVoltages}
+use Rattle.procedure.specs.Taking.{taking}
+use Rattle.procedure.specs.Cells.{Filled, untouched, listed, readCells, cellVoltages}
 use Rattle.procedure.proofs.Reading.{Tested, tested}
 use Rattle.cells.proofs.crate_list.cell_voltages.Statement.{statement}
 use Rattle.cells.proofs.crate_list.cell_voltages.Tie as tie

@@ -10,7 +10,8 @@ use denote.Ref.{now}
 use borrow.Author.Tests.{lt-ltb, le-ltb}
 use Rattle.units.specs.declared.MilliVolts.{MilliVolts}
 use Rattle.laws.specs.Over.{_over_}
-use Rattle.procedure.specs.Cells.{volts, firstCells, handedBack}
+use Rattle.bq769x0.specs.Figures.{volts, firstCells}
+use Rattle.procedure.specs.Cells.{handedBack}
 use borrow.Author.Needs.{needs}
 use Rattle.cells.proofs.crate_list.cells_of.Statement.{statement}
 use Rattle.cells.proofs.crate_list.cells_of.Tie as tie

@@ -8,7 +8,7 @@ use lib.ListN.{length, take, length-set}
 use mir.Syntax.{w32}
 use denote.Ref.{now}
 use Rattle.laws.specs.Over.{_over_}
-use Rattle.procedure.specs.Cells.{volts}
+use Rattle.bq769x0.specs.Figures.{volts}
 use Rattle.laws.proofs.Over.{map-next}
 use Rattle.numbers.proofs.Signed.{read-back}
 use Rattle.cells.proofs.crate_list.fill.Statement.{statement}

@@ -7,7 +7,6 @@ use lib.IntN.{ℤ, pos}
 use lib.ListN.{length, take}
 use denote.Ref.{now}
 use borrow.Author.Needs.{needs}
-use Rattle.units.specs.declared.MilliVolts.{MilliVolts}
 use Rattle.refusals.specs.Refusal.{Refusal, value, refused}
 use Rattle.bus.specs.Transfers.{Bus, busOf}
 use Rattle.bus.specs.Programs.{Ran, onTape}
@@ -15,13 +14,14 @@ use Rattle.bus.specs.Raw.{asRaw}
 use Rattle.bus.specs.declared.link.Raw.{Raw}
 use Rattle.bq769x0.specs.Record.{withReadings}
 use Rattle.bq769x0.specs.declared.BQ769x0.{BQ769x0}
-use Rattle.bq769x0.proofs.Sizes.{sound-sizes, sound-gain}
+use Rattle.bq769x0.specs.declared.Readings.{Readings}
+use Rattle.bq769x0.proofs.Sizes.{sound-pack, sound-sizes, sound-gain}
 use Rattle.laws.specs.Over.{_over_}
-use Rattle.moves.specs.Moves.{Move, moves, inTurn}
+use Rattle.moves.specs.Moves.{moves, inTurn}
 use Rattle.moves.proofs.Front.{length-turned}
-use Rattle.procedure.specs.Inputs.{asCells}
-use Rattle.procedure.specs.Cells.{Filled, filled, taking, untouched, listed, readCells}
-use Rattle.procedure.proofs.Moved.{taken, listed-first}
+use Rattle.procedure.specs.Taking.{taken, taking}
+use Rattle.procedure.specs.Cells.{Filled, filled, untouched, listed, readCells}
+use Rattle.procedure.proofs.Moved.{listed-first}
 use Rattle.procedure.proofs.Reading.{unread, given}
 use Rattle.cells.specs.Inside.{Taken}
 use Rattle.cells.proofs.crate_list.read_cells.Statement.{statement}
@@ -36,9 +36,6 @@ module _ (s : tie.Start) where
 
   abbrev n : ℕ
   n = device .«cell_count»
-
-  abbrev all : List Move
-  all = moves x n
 
   abbrev list : List ℤ
   list = now (s .args .list)
@@ -65,20 +62,20 @@ module _ (s : tie.Start) where
     unfolding readCells
     off t = unread device 0 (untouched device list) give bus (asRaw (r .answer)) (read .readings) _ (read .read) _ t
 
-    module _ (moved : List ℤ) (turned : moved ≡ inTurn (pos 0) all inputs) where
+    module _ (t : asRaw (r .answer) ≡ value tt) (moved : List ℤ) (turned : moved ≡ inTurn (pos 0) (moves x n) inputs) where
       long : length moved ≡ 16
-      long = ap length turned ∙ length-turned (pos 0) all inputs ∙ read .room
+      long = ap length turned ∙ length-turned (pos 0) (moves x n) inputs ∙ read .room
 
-      on : {cells : List MilliVolts} {left : BQ769x0} {list′ : List ℤ} → asRaw (r .answer) ≡ value tt
+      on : {readings : Readings} {left : BQ769x0} {list′ : List ℤ} → readings ≡ taken x n (device .readings) (take x inputs)
           → list′ ≡ take n moved over list
-          → cells ≡ asCells (take x moved) over device .readings .cells
-          → left ≡ withReadings device (record { cells = cells })
+          → left ≡ withReadings device readings
           → whole ≡ record { answer = filled (value tt) left list′; bus = busOf tape log (r .at) }
       unfolding readCells
-      on t lists stored kept =
+      on stored lists kept =
           let room : x ≤ length inputs = omega (arith, few, read .room) in
-          let first = listed-first device (s .pre .0) (read .readings) inputs moved room (read .first t) turned in
-          rw (lists, first, taken device (s .pre .0) (read .readings) inputs moved room (read .first t) turned stored kept)
+          let pack = sound-pack device (s .pre .0) in
+          let first = listed-first x n pack (device .readings) (read .readings) inputs moved room (read .first t) turned in
+          rw (lists, first, kept, stored, read .first t)
           (given device 0 (untouched device list) give bus (asRaw (r .answer)) (read .readings) _ (read .read) t)
 
 -- ---- the places, each from the next
@@ -88,29 +85,36 @@ at-start c = c .before .before .before
 abbrev at-read : tie.After-next → tie.After-read-inputs
 at-read c = c .before .before .before
 
-abbrev at-told : tie.After-in-turn → tie.After-enum-told
-at-told c = c .before .before
+abbrev at-told : tie.After-fitted → tie.After-enum-told
+at-told c = c .before
 
-abbrev at-turned : tie.After-list-first → tie.After-in-turn
-at-turned c = c .before .before .before
+abbrev at-fitted : tie.After-taken → tie.After-fitted
+at-fitted c = c .before .before
 
-abbrev at-listed : tie.After-held → tie.After-list-first
-at-listed c = c .before .before
+abbrev at-taken : tie.After-list-first → tie.After-taken
+at-taken c = c .before .before .before
 
--- ---- after the read, and after the moves
+-- ---- after the read, with the fitted inputs, and after both lists are taken
 module _ (c : tie.After-read-inputs) where
   abbrev start : tie.Start
   start = at-start (c .before .before .before)
 
-module _ (c : tie.After-in-turn) where
+module _ (c : tie.After-fitted) where
   abbrev reading : tie.After-read-inputs
   reading = at-read (at-told c .before .before)
 
+  done : asRaw (reading .read-inputs .result .answer) ≡ value tt
+  done = ap asRaw (at-told c .enum-told .given .1)
+
+module _ (c : tie.After-taken) where
+  abbrev read : tie.After-read-inputs
+  read = reading (at-fitted c)
+
   abbrev moved : List ℤ
-  moved = c .in-turn .last .1 .1 .0
+  moved = c .taken .last .1 .1 .1 .1 .0
 
   wide : length moved ≡ 16
-  wide = long (start reading) (reading .read-inputs .ensures) moved (c .in-turn .ensures)
+  wide = long (start read) (read .read-inputs .ensures) (done (at-fitted c)) moved (c .taken .ensures .1)
 
 -- ---- the needs
 read-inputs-requires : tie.Need-read-inputs-requires
@@ -133,26 +137,24 @@ returns c =
     let read = at-read (c .before .before) in
     rw t (sym (off (start read) (read .read-inputs .ensures) t))
 
-in-turn-requires : tie.Need-in-turn-requires
-in-turn-requires c κs = search needs
+fitted-requires : tie.Need-fitted-requires
+fitted-requires c κs = search needs
+
+taken-requires : tie.Need-taken-requires
+taken-requires c κs =
+    let row = c .before in
+    let s = start (reading row) in
+    let taken = reading row .read-inputs .ensures in
+    (sound-pack (device s) (s .pre .0), row .fitted .ensures, taken .room, taken .small (done row))
 
 cast-list-first : tie.Need-cast-list-first
-cast-list-first c = search needs
+cast-list-first c = omega (arith, few (start (read c)))
 
 list-first-requires : tie.Need-list-first-requires
 list-first-requires c κs =
-    let turn = c .before .before in
-    let s = start (reading turn) in
-    (few s .1, omega (arith, few s, wide turn), s .pre .1)
-
-cast-stored : tie.Need-cast-stored
-cast-stored c = omega (arith, few (start (reading (at-turned (at-listed c)))))
-
-stored-requires : tie.Need-stored-requires
-stored-requires c κs =
-    let turn = at-turned (at-listed (c .before)) in
-    let s = start (reading turn) in
-    (few s .0, omega (arith, few s, wide turn))
+    let both = c .before .before in
+    let s = start (read both) in
+    (few s .1, omega (arith, few s, wide both), s .pre .1)
 
 store-readings-requires : tie.Need-store-readings-requires
 store-readings-requires c κs = search needs
@@ -161,16 +163,16 @@ same-length-2 : tie.Need-same-length-2
 same-length-2 c = search needs
 
 same-length-3 : tie.Need-same-length-3
-same-length-3 c = search needs
+same-length-3 c = read (at-taken (c .before .before)) .read-inputs .kept .1 .1 .1 .1 .0
 
 returns-2 : tie.Need-returns-2
 returns-2 c =
-    let lists = at-listed (c .before .before .before) in
-    let turn = at-turned lists in
-    let t = ap asRaw (at-told turn .enum-told .given .1) in
+    let lists = c .before .before in
+    let both = at-taken lists in
+    let t = done (at-fitted both) in
     rw t
-    (sym (on (start (reading turn)) (reading turn .read-inputs .ensures) (moved turn) (turn .in-turn .ensures) t
-    (lists .list-first .ensures) (c .before .stored .ensures) (c .store-readings .ensures)))
+    (sym (on (start (read both)) (read both .read-inputs .ensures) t (moved both) (both .taken .ensures .1)
+    (both .taken .ensures .0) (lists .list-first .ensures) (c .store-readings .ensures)))
 
 pub read-cells-spec : {M : Type 1} → statement M
 read-cells-spec =
@@ -181,11 +183,10 @@ read-cells-spec =
     enum-told-2
     same-length
     returns
-    in-turn-requires
+    fitted-requires
+    taken-requires
     cast-list-first
     list-first-requires
-    cast-stored
-    stored-requires
     store-readings-requires
     same-length-2
     same-length-3

@@ -27,6 +27,7 @@ fewer {adc} {bytes} {k} {cells} n few held = record {
       sym (take-take n k cells few)
       ∙ ap (take n) (held .first)
       ∙ take-take n k (converted adc bytes) few;
+  small = λ j h. held .small j (omega arith);
 }
 
 loop-holds : tie.Need-loop-holds Inv-loop μ-loop

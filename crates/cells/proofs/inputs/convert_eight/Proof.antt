@@ -1,12 +1,15 @@
 -- `cells::inputs::convert_eight` meets its contract: a turn goes on from k + i inputs to k + i + 1. Assumes nothing.
-use mathlib.Core.Path.{_≡_, sym, ap, ap₂, _∙_}
+use mathlib.Core.Path.{_≡_, refl, sym, ap, ap₂, _∙_}
+use mathlib.Core.Bool.{Bool, true, false}
 use mathlib.Core.List.{List, [], _∷_, _++_}
 use Prim.Native.Nat.{ℕ, suc, _+_, _-_, _*_, _≤_, _<_, zero-le}
 use native.Mathlib.Omega.{arith}
 use native.Mathlib.Numerals.{unary-clauses}
-use lib.IntN.{ℤ}
+use lib.Dec.{ltb}
+use lib.IntN.{ℤ, pos, natAbs}
 use lib.ListN.{length, getD, set, length-set}
-use lib.Seq.{take-suc, take-suc-set}
+use lib.Seq.{take-suc, take-suc-set, getD-set-same, getD-set-other}
+use borrow.Author.Tests.{ltb-true, ltb-false}
 use mir.Syntax.{w32}
 use mir.Val.{toZ, ofZ}
 use denote.Ref.{now}
@@ -16,7 +19,7 @@ use Rattle.adc.specs.Conversion.{millivolts}
 use Rattle.adc.specs.declared.transfer.AdcTransferFunction.{AdcTransferFunction}
 use Rattle.procedure.specs.Inputs.{converted}
 use Rattle.procedure.proofs.Converted.{length-converted, converted-at}
-use Rattle.cells.specs.Inside.{Held}
+use Rattle.cells.specs.Inside.{Small, Held}
 use Rattle.cells.proofs.inputs.convert_eight.Statement.{statement}
 use Rattle.cells.proofs.inputs.convert_eight.Tie as tie
 
@@ -42,14 +45,26 @@ module _ {adc : AdcTransferFunction} {bytes : List ℕ} {j : ℕ} {cells : List 
       ap₂ (λ (h l : ℕ). millivolts (adc .gain) (adc .offset) (word (getD bytes h 0) (getD bytes l 0))) high low
       ∙ sym (converted-at adc bytes j (omega (arith, held .from)))
 
-  one-more : {mv : ℤ} → mv ≡ getD (converted adc bytes) j none → Held adc bytes (suc j) (set cells j mv)
-  one-more {mv} made = record {
+  small-then : (mv : ℤ) → natAbs mv ≤ 27000 → Small (suc j) (set cells j mv)
+  small-then mv few k h = by-test (ltb k j) refl
+    where
+      by-test : (t : Bool) → ltb k j ≡ t → natAbs (getD (set cells j mv) k (pos 0)) ≤ 27000
+      by-test true e =
+          let less : k < j = ltb-true k j e in
+          rw (getD-set-other cells j k mv (pos 0) (λ q. absurd (omega arith))) (held .small k less)
+      by-test false e =
+          let last : k ≡ j = omega (arith, ltb-false k j e) in
+          rw (last, getD-set-same cells j mv (pos 0) (omega (arith, held .room))) few
+
+  one-more : {mv : ℤ} → mv ≡ getD (converted adc bytes) j none → natAbs mv ≤ 27000 → Held adc bytes (suc j) (set cells j mv)
+  one-more {mv} made few = record {
     from = held .from;
     room = length-set cells j mv ∙ held .room;
     first =
         take-suc-set cells j mv (omega (arith, held .room))
         ∙ ap₂ (λ (l : List ℤ) (n : ℤ). l ++ (n ∷ [])) (held .first) made
         ∙ sym (take-suc (converted adc bytes) j none there);
+    small = small-then mv few;
   }
 
 -- ---- in a turn
@@ -64,8 +79,9 @@ module _ (c : tie.After-millivolts Inv-loop μ-loop) where
       (set (turn .loop .cells) j (toZ w32 (ofZ w32 (c .millivolts .result))))
   next =
       let within : j < 16 = omega arith in
-      one-more (turn .loop .inv .1) within
-      (read-back w32 (c .millivolts .result) (c .millivolts .ok) ∙ c .millivolts .ensures ∙ next-is (turn .loop .inv .1) within)
+      let read = read-back w32 (c .millivolts .result) (c .millivolts .ok) in
+      one-more (turn .loop .inv .1) within (read ∙ c .millivolts .ensures .0 ∙ next-is (turn .loop .inv .1) within)
+      (rw read (c .millivolts .ensures .1))
 
 -- ---- the needs
 loop-holds : tie.Need-loop-holds Inv-loop μ-loop

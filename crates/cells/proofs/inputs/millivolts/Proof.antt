@@ -72,6 +72,9 @@ module _ (c : tie.After-struct-told) where
   quotient-fits : SFits w32 (whole read ÷ 1000)
   quotient-fits = sized (omega (arith, whole≤, size-div (whole read) 1000))
 
+  quotient≤ : natAbs (whole read ÷ 1000) ≤ 27000
+  quotient≤ = omega (arith, whole≤, size-div (whole read) 1000)
+
 ruleset facts =
     (needs, quot-div, reading-read, gain-read, up-fits, offset-fits, wide-fits, part-fits, whole-fits, quotient-fits)
 
@@ -113,7 +116,7 @@ returns c =
       quot-div,
       toZ-ofZ (quotient-fits c),
     )
-    (ap (millivolts (gain (read c)) (offset (read c))) (read c .be-u16 .ensures))
+    (ap (millivolts (gain (read c)) (offset (read c))) (read c .be-u16 .ensures), quotient≤ c)
 
 pub millivolts-spec : {M : Type 1} → statement M
 millivolts-spec =

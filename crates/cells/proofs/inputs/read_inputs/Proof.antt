@@ -58,6 +58,7 @@ module _ (s : tie.Start) where
       from = length-append bytes (drop n zeroes) ∙ omega (arith, size, s .pre .0, length-drop n zeroes);
       room = room;
       first = refl;
+      small = λ k h. absurd (omega arith);
     }
 
     first-x : converted adc bytes ≡ take (link .x) (converted adc filled)
@@ -85,6 +86,7 @@ module _ (s : tie.Start) where
         read = rw t (sym (heard .off t));
         room = room;
         first = λ e. absurd (let z : _≡_ {A = ℕ} 0 1 = cc in omega arith);
+        small = λ e. absurd (let z : _≡_ {A = ℕ} 0 1 = cc in omega arith);
       }
 
       taken : {cells : List ℤ} → asRaw (r .answer) ≡ value tt → Held adc filled (link .x) cells
@@ -94,6 +96,7 @@ module _ (s : tie.Start) where
         read = rw t (sym (heard .on t));
         room = held .room;
         first = λ _. held .first ∙ sym first-x;
+        small = λ _. held .small;
       }
 
 -- ---- the places, each from a later one

@@ -7,7 +7,6 @@ use lib.IntN.{ℤ, pos}
 use lib.ListN.{length, take}
 use denote.Ref.{now}
 use borrow.Author.Needs.{needs}
-use Rattle.units.specs.declared.MilliVolts.{MilliVolts}
 use Rattle.refusals.specs.Refusal.{Refusal, value, refused}
 use Rattle.wiring.specs.Tables.{fitted}
 use Rattle.wiring.specs.Questions.{fifteen}
@@ -17,14 +16,12 @@ use Rattle.bus.specs.Raw.{asRaw}
 use Rattle.bus.specs.declared.link.Raw.{Raw}
 use Rattle.bq769x0.specs.Record.{withReadings}
 use Rattle.bq769x0.specs.declared.BQ769x0.{BQ769x0}
-use Rattle.bq769x0.proofs.Sizes.{sound-sizes, sound-gain}
+use Rattle.bq769x0.specs.declared.Readings.{Readings}
+use Rattle.bq769x0.proofs.Sizes.{sound-pack, sound-sizes, sound-gain}
 use Rattle.laws.specs.Over.{_over_}
-use Rattle.moves.specs.Moves.{Move, moves, inTurn}
-use Rattle.moves.proofs.Front.{length-turned}
-use Rattle.procedure.specs.Inputs.{asCells}
-use Rattle.procedure.specs.Wired.{ofInput, Shown, shown, unshown, showing, readWired}
+use Rattle.procedure.specs.Taking.{ofInput, taken}
+use Rattle.procedure.specs.Wired.{Shown, shown, unshown, showing, readWired}
 use Rattle.procedure.proofs.Fitted.{listed-within, listed-inputs, listed-volts}
-use Rattle.procedure.proofs.Moved.{taken}
 use Rattle.procedure.proofs.Reading.{unread, given}
 use Rattle.cells.specs.Inside.{Taken}
 use Rattle.cells.proofs.wired.read_wired.Statement.{statement}
@@ -39,9 +36,6 @@ module _ (s : tie.Start) where
 
   abbrev n : ℕ
   n = device .«cell_count»
-
-  abbrev all : List Move
-  all = moves x n
 
   abbrev inputs : List ℕ
   inputs = now (s .args .inputs)
@@ -70,26 +64,21 @@ module _ (s : tie.Start) where
         unread device 0 (unshown device inputs list) (showing device inputs list) bus
         (asRaw (r .answer)) (read .readings) _ (read .read) _ t
 
-    module _ (moved : List ℤ) (turned : moved ≡ inTurn (pos 0) all numbers) where
-      long : length moved ≡ 16
-      long = ap length turned ∙ length-turned (pos 0) all numbers ∙ read .room
-
-      on : {cells : List MilliVolts} {left : BQ769x0} {row inputs′ : List ℕ} {list′ : List ℤ} → asRaw (r .answer) ≡ value tt
-          → row ≡ fifteen (fitted x n)
-          → (inputs′ ≡ take n row over inputs)
-          × (list′ ≡ map (ofInput numbers) (take n row) over list)
-          → cells ≡ asCells (take x moved) over device .readings .cells
-          → left ≡ withReadings device (record { cells = cells })
-          → whole ≡ record { answer = shown (value tt) left inputs′ list′; bus = busOf tape log (r .at) }
-      unfolding readWired
-      on t listing lists stored kept =
-          let sound = s .pre .0 in
-          let room : x ≤ length numbers = omega (arith, few, read .room) in
-          let fits = lists .0 ∙ ap (λ (l : List ℕ). l over inputs) (listed-inputs device sound listing) in
-          let volts = lists .1 ∙ ap (λ (l : List ℤ). l over list) (listed-volts device sound (read .readings) numbers listing (read .first t)) in
-          rw (fits, volts, taken device sound (read .readings) numbers moved room (read .first t) turned stored kept)
-          (given device 0 (unshown device inputs list) (showing device inputs list) bus
-          (asRaw (r .answer)) (read .readings) _ (read .read) t)
+    on : {readings : Readings} {left : BQ769x0} {row inputs′ : List ℕ} {list′ : List ℤ} → asRaw (r .answer) ≡ value tt
+        → row ≡ fifteen (fitted x n)
+        → (inputs′ ≡ take n row over inputs)
+        × (list′ ≡ map (ofInput numbers) (take n row) over list)
+        → readings ≡ taken x n (device .readings) (take x numbers)
+        → left ≡ withReadings device readings
+        → whole ≡ record { answer = shown (value tt) left inputs′ list′; bus = busOf tape log (r .at) }
+    unfolding readWired
+    on t listing lists stored kept =
+        let pack = sound-pack device (s .pre .0) in
+        let fits = lists .0 ∙ ap (λ (l : List ℕ). l over inputs) (listed-inputs x n pack listing) in
+        let volts = lists .1 ∙ ap (λ (l : List ℤ). l over list) (listed-volts x n pack (read .readings) numbers listing (read .first t)) in
+        rw (fits, volts, kept, stored, read .first t)
+        (given device 0 (unshown device inputs list) (showing device inputs list) bus
+        (asRaw (r .answer)) (read .readings) _ (read .read) t)
 
 -- ---- the places, each from the next
 abbrev at-start : tie.After-slice-known2 → tie.Start
@@ -101,13 +90,10 @@ at-read c = c .before .before .before
 abbrev at-fitted : tie.After-show → tie.After-fitted
 at-fitted c = c .before .before .before .before
 
-abbrev at-shown : tie.After-list → tie.After-show
-at-shown c = c .before .before .before
+abbrev at-shown : tie.After-taken → tie.After-show
+at-shown c = c .before .before .before .before .before
 
-abbrev at-turned : tie.After-stored → tie.After-in-turn
-at-turned c = c .before .before .before
-
--- ---- after the read, with the fitted inputs, and after the moves
+-- ---- after the read, with the fitted inputs, and after both lists are taken
 module _ (c : tie.After-read-inputs) where
   abbrev start : tie.Start
   start = at-start (c .before .before .before .before)
@@ -119,18 +105,8 @@ module _ (c : tie.After-fitted) where
   abbrev reading : tie.After-read-inputs
   reading = at-read (told .before .before)
 
-module _ (c : tie.After-in-turn) where
-  abbrev shows : tie.After-show
-  shows = at-shown (c .before .before)
-
-  abbrev fits : tie.After-fitted
-  fits = at-fitted shows
-
-  abbrev moved : List ℤ
-  moved = c .in-turn .last .1 .1 .0
-
-  wide : length moved ≡ 16
-  wide = long (start (reading fits)) (reading fits .read-inputs .ensures) moved (c .in-turn .ensures)
+  done : asRaw (reading .read-inputs .result .answer) ≡ value tt
+  done = ap asRaw (told .enum-told .given .1)
 
 -- ---- the needs
 read-inputs-requires : tie.Need-read-inputs-requires
@@ -164,19 +140,15 @@ show-requires c κs =
     let row = c .before .before .before in
     let s = start (reading row) in (
       (few s .1, s .pre .1 .0, s .pre .1 .1),
-      listed-within (device s) (s .pre .0) (row .fitted .ensures),
+      listed-within (x s) (n s) (sound-pack (device s) (s .pre .0)) (row .fitted .ensures),
     )
 
-in-turn-requires : tie.Need-in-turn-requires
-in-turn-requires c κs = search needs
-
-cast-stored : tie.Need-cast-stored
-cast-stored c = omega (arith, few (start (reading (fits (c .before)))))
-
-stored-requires : tie.Need-stored-requires
-stored-requires c κs =
-    let s = start (reading (fits (c .before .before))) in
-    (few s .0, omega (arith, few s, wide (c .before .before)))
+taken-requires : tie.Need-taken-requires
+taken-requires c κs =
+    let row = at-fitted (c .before .before .before .before) in
+    let s = start (reading row) in
+    let taken = reading row .read-inputs .ensures in
+    (sound-pack (device s) (s .pre .0), row .fitted .ensures, taken .room, taken .small (done row))
 
 store-readings-requires : tie.Need-store-readings-requires
 store-readings-requires c κs = search needs
@@ -188,16 +160,15 @@ same-length-3 : tie.Need-same-length-3
 same-length-3 c = search needs
 
 same-length-4 : tie.Need-same-length-4
-same-length-4 c = reading (fits (at-turned (c .before))) .read-inputs .kept .1 .1 .1 .1 .0
+same-length-4 c = reading (at-fitted (at-shown (c .before))) .read-inputs .kept .1 .1 .1 .1 .0
 
 returns-2 : tie.Need-returns-2
 returns-2 c =
-    let turn = at-turned (c .before) in
-    let row = fits turn in
-    let t = ap asRaw (told row .enum-told .given .1) in
-    rw t
-    (sym (on (start (reading row)) (reading row .read-inputs .ensures) (moved turn) (turn .in-turn .ensures) t
-    (row .fitted .ensures) (shows turn .show .ensures) (c .before .stored .ensures) (c .store-readings .ensures)))
+    let shows = at-shown (c .before) in
+    let row = at-fitted shows in
+    rw (done row)
+    (sym (on (start (reading row)) (reading row .read-inputs .ensures) (done row)
+    (row .fitted .ensures) (shows .show .ensures) (c .before .taken .ensures .0) (c .store-readings .ensures)))
 
 pub read-wired-spec : {M : Type 1} → statement M
 read-wired-spec =
@@ -211,9 +182,7 @@ read-wired-spec =
     fitted-requires
     cast-show
     show-requires
-    in-turn-requires
-    cast-stored
-    stored-requires
+    taken-requires
     store-readings-requires
     same-length-2
     same-length-3

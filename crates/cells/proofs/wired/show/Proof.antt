@@ -7,7 +7,7 @@ use lib.ListN.{length, take, getD, length-set}
 use mir.Syntax.{w32}
 use denote.Ref.{now}
 use Rattle.laws.specs.Over.{_over_}
-use Rattle.procedure.specs.Wired.{ofInput}
+use Rattle.procedure.specs.Taking.{ofInput}
 use Rattle.laws.proofs.Lists.{map-take}
 use Rattle.laws.proofs.Over.{over-next, map-next}
 use Rattle.numbers.proofs.Signed.{read-back}

@@ -1,4 +1,4 @@
--- `cells::stored` meets its contract: a turn goes on from i cells to i + 1. Assumes nothing.
+-- `cells::taking::stored` meets its contract: a turn goes on from i cells to i + 1. Assumes nothing.
 use mathlib.Core.Path.{_≡_, refl, ap, _∙_}
 use Prim.Native.Nat.{_-_, _≤_, zero-le}
 use native.Mathlib.Omega.{arith}
@@ -11,8 +11,8 @@ use Rattle.procedure.specs.Inputs.{asCell, asCells}
 use Rattle.laws.proofs.Lists.{map-take}
 use Rattle.laws.proofs.Over.{map-next}
 use Rattle.numbers.proofs.Signed.{read-back}
-use Rattle.cells.proofs.stored.Statement.{statement}
-use Rattle.cells.proofs.stored.Tie as tie
+use Rattle.cells.proofs.taking.stored.Statement.{statement}
+use Rattle.cells.proofs.taking.stored.Tie as tie
 
 abbrev Inv-loop : tie.InvT-loop
 Inv-loop n inputs out₀ i₀ out i = (i ≤ n) × (out ≡ take i (asCells inputs) over out₀) × (length out₀ ≡ 15)

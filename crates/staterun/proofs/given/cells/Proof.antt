@@ -1,29 +1,26 @@
--- `staterun::given::readings_of` ends. Assumes nothing.
+-- `staterun::given::cells` ends. Assumes nothing.
 use Prim.Native.Nat.{_-_}
 use borrow.Author.Needs.{needs}
-use Rattle.staterun.proofs.given.readings_of.Statement.{statement}
-use Rattle.staterun.proofs.given.readings_of.Tie as tie
+use Rattle.staterun.proofs.given.cells.Statement.{statement}
+use Rattle.staterun.proofs.given.cells.Tie as tie
 
 abbrev Inv-loop : tie.InvT-loop
-Inv-loop value cells₀ i₀ cells i = Unit {0}
+Inv-loop value at cells₀ i₀ cells i = Unit {0}
 
 abbrev μ-loop : tie.MeasureT-loop
-μ-loop value cells₀ i₀ cells i = 15 - i
+μ-loop value at cells₀ i₀ cells i = 15 - i
 
 loop-holds : tie.Need-loop-holds Inv-loop μ-loop
 loop-holds c = search needs
 
-mul-four : tie.Need-mul-four Inv-loop μ-loop
-mul-four c = search needs
+mul-millivolts : tie.Need-mul-millivolts Inv-loop μ-loop
+mul-millivolts c = search needs
 
-add-four : tie.Need-add-four Inv-loop μ-loop
-add-four c = search needs
+add-millivolts : tie.Need-add-millivolts Inv-loop μ-loop
+add-millivolts c = search needs
 
-four-requires : tie.Need-four-requires Inv-loop μ-loop
-four-requires c κs = search needs
-
-as-i32-requires : tie.Need-as-i32-requires Inv-loop μ-loop
-as-i32-requires c κs = search needs
+millivolts-requires : tie.Need-millivolts-requires Inv-loop μ-loop
+millivolts-requires c κs = search needs
 
 mul-cells : tie.Need-mul-cells Inv-loop μ-loop
 mul-cells c = search needs
@@ -43,17 +40,16 @@ loop-again c = search needs
 returns : tie.Need-returns Inv-loop μ-loop
 returns c = search needs
 
-pub readings-of-spec : {M : Type 1} → statement M
-readings-of-spec =
+pub cells-spec : {M : Type 1} → statement M
+cells-spec =
     tie.close
     (tie.spec
     Inv-loop
     μ-loop
     loop-holds
-    mul-four
-    add-four
-    four-requires
-    as-i32-requires
+    mul-millivolts
+    add-millivolts
+    millivolts-requires
     mul-cells
     array-set-from-cells
     add-i
