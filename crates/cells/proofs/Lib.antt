@@ -4,3 +4,4 @@ pub mod BothLists
 pub mod ByRegisters
 pub mod Outcomes
 pub mod Spread
+mod Taken

@@ -10,9 +10,11 @@ ghost use Rattle.bus.specs.Lent.{does};
 ghost use Rattle.bus.specs.Raw.{asRaw};
 ghost use Rattle.procedure.specs.Cells.{filled, handedBack, readCells, cellVoltages};
 use crate::Cells;
+use crate::figures;
 use crate::inputs;
 use crate::taking;
 use bq769x0::BQ769x0;
+use bq769x0::Readings;
 use bus::Cursor;
 use bus::link::RawAnswer;
 use refusals::Error;
@@ -62,9 +64,19 @@ fn read_cells(device: BQ769x0, list: &mut [i32], tape: &[u8], log: &mut [u8], at
             at: next,
         };
     };
+    let wired = device.readings.wired;
     let fitted = tables::fitted(x, cell_count);
-    let readings = taking::taken(x, cell_count, fitted, device.readings, &mut inputs);
+    let wired = taking::by_wiring(cell_count as usize, fitted, &inputs, wired);
+    let spread = figures::spread_of(cell_count as usize, wired);
+    moves::in_turn(x, cell_count, &mut inputs);
     list_first(cell_count as usize, &inputs, list);
+    let cells = device.readings.cells;
+    let cells = taking::stored(x as usize, &inputs, cells);
+    let readings = Readings {
+        cells,
+        wired,
+        spread,
+    };
     Cells {
         answer,
         device: device.store_readings(readings),

@@ -11,9 +11,11 @@ ghost use Rattle.laws.specs.Over.{_over_};
 ghost use Rattle.procedure.specs.Taking.{ofInput};
 ghost use Rattle.procedure.specs.Wired.{shown, readWired, wired};
 use crate::Cells;
+use crate::figures;
 use crate::inputs;
 use crate::taking;
 use bq769x0::BQ769x0;
+use bq769x0::Readings;
 use bus::Cursor;
 use bus::link::RawAnswer;
 use refusals::Error;
@@ -75,7 +77,17 @@ fn read_wired(
     };
     let fitted = tables::fitted(x, cell_count);
     show(cell_count as usize, fitted, &millivolts, inputs, list);
-    let readings = taking::taken(x, cell_count, fitted, device.readings, &mut millivolts);
+    let wired = device.readings.wired;
+    let wired = taking::by_wiring(cell_count as usize, fitted, &millivolts, wired);
+    let spread = figures::spread_of(cell_count as usize, wired);
+    moves::in_turn(x, cell_count, &mut millivolts);
+    let cells = device.readings.cells;
+    let cells = taking::stored(x as usize, &millivolts, cells);
+    let readings = Readings {
+        cells,
+        wired,
+        spread,
+    };
     Cells {
         answer,
         device: device.store_readings(readings),

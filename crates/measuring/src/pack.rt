@@ -41,7 +41,8 @@ pub fn current(device: BQ769x0, tape: &[u8], log: &mut [u8], at: Cursor) -> Curr
             at,
         };
     }
-    let read = word::read_word(device, 0x32, tape, log, at);
+    let link = device.link;
+    let read = word::read_word(link, 0x32, tape, log, at);
     let answer = read.answer;
     let next = read.at;
     let shunt = device.shunt;
@@ -66,7 +67,8 @@ pub fn voltage(device: BQ769x0, tape: &[u8], log: &mut [u8], at: Cursor) -> Volt
             at,
         };
     }
-    let read = word::read_word(device, 0x2a, tape, log, at);
+    let link = device.link;
+    let read = word::read_word(link, 0x2a, tape, log, at);
     let answer = read.answer;
     let next = read.at;
     match answer {

@@ -61,7 +61,8 @@ pub fn temperature(device: BQ769x0, tape: &[u8], log: &mut [u8], at: Cursor) -> 
 fn sense(device: BQ769x0, tape: &[u8], log: &mut [u8], at: Cursor) -> SensedRead
     ensures { λ r. ⌜ does (sense device) tape log at (asSensed (r .answer)) (r .at) ⌝ }
 {
-    let read = word::read_word(device, 0x2c, tape, log, at);
+    let link = device.link;
+    let read = word::read_word(link, 0x2c, tape, log, at);
     let answer = read.answer;
     let next = read.at;
     match answer {

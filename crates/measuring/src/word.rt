@@ -2,8 +2,8 @@
 ghost use Rattle.bus.specs.Lent.{does};
 ghost use Rattle.measuring.specs.Word.{readWord};
 ghost use Rattle.measuring.specs.Inside.{asWord};
-use bq769x0::BQ769x0;
 use bus::Cursor;
+use bus::link::Link;
 use bus::link::RawAnswer;
 use refusals::Error;
 
@@ -17,16 +17,9 @@ pub(crate) struct WordRead {
     pub at: Cursor,
 }
 
-pub(crate) fn read_word(
-    device: BQ769x0,
-    reg: u8,
-    tape: &[u8],
-    log: &mut [u8],
-    at: Cursor,
-) -> WordRead
-    ensures { λ r. ⌜ does (readWord (device .link) reg) tape log at (asWord (r .answer)) (r .at) ⌝ }
+pub(crate) fn read_word(link: Link, reg: u8, tape: &[u8], log: &mut [u8], at: Cursor) -> WordRead
+    ensures { λ r. ⌜ does (readWord link reg) tape log at (asWord (r .answer)) (r .at) ⌝ }
 {
-    let link = device.link;
     let mut bytes = [0u8; 2];
     let read = raw::short::read_two(link, reg, &mut bytes, tape, log, at);
     let answer = read.answer;

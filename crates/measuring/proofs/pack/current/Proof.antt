@@ -83,7 +83,7 @@ marked c = not-false _ (c .if2 .left)
 
 module _ (c : tie.After-read-word) where
   abbrev tested : tie.Else2
-  tested = c .before .before
+  tested = c .before .before .before
 
   abbrev s : tie.Start
   s = start (at-sound tested)

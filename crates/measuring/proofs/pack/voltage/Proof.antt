@@ -64,7 +64,7 @@ module _ (c : tie.Else1) where
 
 module _ (c : tie.After-read-word) where
   abbrev tested : tie.Else1
-  tested = c .before .before
+  tested = c .before .before .before
 
   after-read : Heard
       (whole (start tested))

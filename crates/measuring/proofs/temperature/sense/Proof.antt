@@ -40,7 +40,7 @@ module _ (s : tie.Start) where
 
 -- ---- the places, each from a later one
 abbrev at-start : tie.After-read-word → tie.Start
-at-start c = c .before .before .before .before
+at-start c = c .before .before .before .before .before
 
 abbrev at-read : tie.After-next → tie.After-read-word
 at-read c = c .before .before .before

@@ -22,21 +22,21 @@ module _ (s : tie.Start) where
   bus = busOf (now (s .args .tape)) (now (s .args .log)) (s .args .at)
 
   abbrev whole : Ran (Answer ℕ)
-  whole = onTape (readWord (s .args .device .link) (s .args .reg)) bus
+  whole = onTape (readWord (s .args .link) (s .args .reg)) bus
 
   abbrev joined : List ℕ → Done → Answer ℕ
   joined bytes _ = value (word (getD bytes 0 0) (getD bytes 1 0))
 
   read : {a : Answer Done} {bytes : List ℕ} {b : Bus}
       → record { answer = gives a bytes; bus = b }
-      ≡ onTape (readRaw (s .args .device .link) (s .args .reg) (replicate 2 0)) bus
+      ≡ onTape (readRaw (s .args .link) (s .args .reg) (replicate 2 0)) bus
       → Heard whole (joined bytes) a b
   unfolding readWord onTape
   read e = record { off = λ t. read-off _ _ 2 _ e _ _ _ t; on = λ t. read-on _ _ 2 _ e _ _ t }
 
 -- ---- the places, each from a later one
 abbrev at-start : tie.After-bytes → tie.Start
-at-start c = c .before .before .before .before
+at-start c = c .before .before .before
 
 abbrev at-read : tie.After-next → tie.After-read-two
 at-read c = c .before .before .before
