@@ -25,6 +25,8 @@ uint8_t bench_write_raw(uint8_t x, uint8_t address, bool check, uint8_t reg, con
 /* bench_wired */
 uint8_t bench_wired(RECORD, uint8_t *inputs, size_t inputs_len, int32_t *list, size_t list_len, BUS);
 
+void bench_spread(int32_t sum, int32_t lowest, int32_t highest, int32_t out[3]); /* of a record that holds these three */
+
 /* bench_commands */
 uint8_t bench_enable_balancing(RECORD, uint8_t set, BUS);
 uint8_t bench_balancing_state(RECORD, BUS);

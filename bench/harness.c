@@ -79,6 +79,15 @@ static void cells_tape(int check) {
     done(check, readings, (size_t)(2 * inputs));
 }
 
+/* An init of that pack, and a reading of its cells after it. */
+static void read_after_init(int check) {
+    job[3] = (uint8_t)inputs;
+    job[4] = (uint8_t)cells;
+    job[6] = (uint8_t)check;
+    init_tape(check);
+    cells_tape(check);
+}
+
 static int five(const char *name, int check) {
     static const uint8_t discharging[2] = {0xF6, 0x3C};
     if (strcmp(name, "init") == 0) {
@@ -87,11 +96,7 @@ static int five(const char *name, int check) {
         return bq769x0_init(job, sizeof job, tape, tape_len, log_, sizeof log_, out);
     }
     if (strcmp(name, "init_cells") == 0) {
-        job[3] = (uint8_t)inputs;
-        job[4] = (uint8_t)cells;
-        job[6] = (uint8_t)check;
-        init_tape(check);
-        cells_tape(check);
+        read_after_init(check);
         return bq769x0_init_cells(job, sizeof job, tape, tape_len, log_, sizeof log_, list, sizeof list, out);
     }
     if (strcmp(name, "cells") == 0) {
@@ -209,12 +214,21 @@ static int balance(const char *name, int check) {
 }
 #endif
 
-/* The cells by the wiring, and the cell on an input: the Rust has neither. */
+/* The cells by the wiring, set up and alone, the question for their figures, and the cell on an input: the Rust has none of these. */
 #ifdef WIRED
 static int wired(const char *name, int check) {
     if (strcmp(name, "wired") == 0) {
         cells_tape(check);
         return bench_wired(RECORD, fitted, (size_t)cells, numbers, (size_t)cells, BUS);
+    }
+    if (strcmp(name, "init_wired") == 0) {
+        uint8_t spread[BQ769X0_SPREAD];
+        read_after_init(check);
+        return bq769x0_init_wired(job, sizeof job, tape, tape_len, log_, sizeof log_, fitted, (size_t)cells, list, sizeof list, spread, out);
+    }
+    if (strcmp(name, "spread") == 0) {
+        bench_spread(36400, 3001, 3740, numbers);
+        return 0;
     }
     if (strcmp(name, "cell_on") == 0) return bq769x0_cell_on((uint8_t)inputs, (uint8_t)cells, (uint8_t)inputs, data);
     return NONE;

@@ -1,5 +1,6 @@
-// The reading by the wiring for the bench's C, apart from the calls that it is counted beside: in one library with them it would share
+// The reading by the wiring, and the question for its figures, for the bench's C, apart from the calls that it is counted beside: in one library with them it would share
 // the reading of the inputs, which the compiler then calls and does not take in.
+ghost use mathlib.Core.List.{[], _∷_};
 ghost use mathlib.Core.Path.{_≡_};
 ghost use Rattle.bus.specs.Transfers.{start};
 ghost use Rattle.bus.specs.Programs.{onTape};
@@ -8,8 +9,11 @@ ghost use Rattle.procedure.specs.Wired.{wired};
 ghost use Rattle.bench.specs.Calls.{recordBy};
 ghost use Rattle.bench_wired.specs.Both.{shownBy, asShown};
 use bench::told;
+use bq769x0::Readings;
+use bq769x0::Spread;
 use bus::Cursor;
 use cells::wired;
+use units::MilliVolts;
 
 #[no_mangle]
 pub extern "C" fn bench_wired(
@@ -35,4 +39,27 @@ pub extern "C" fn bench_wired(
     let answer = read.answer;
     let at = read.at;
     told::done(answer, at, out)
+}
+
+// Of a record that holds these three.
+#[no_mangle]
+pub extern "C" fn bench_spread(sum: i32, lowest: i32, highest: i32, out: &mut [i32; 3])
+    ensures { λ _. ⌜ now (out .exit) ≡ sum ∷ lowest ∷ highest ∷ [] ⌝ }
+{
+    let spread = Spread {
+        sum: MilliVolts(sum),
+        lowest: MilliVolts(lowest),
+        highest: MilliVolts(highest),
+    };
+    let cells = [MilliVolts(0); 15];
+    let wired = [MilliVolts(0); 15];
+    let readings = Readings {
+        cells,
+        wired,
+        spread,
+    };
+    let device = bench::record_by(5, 5, 8, false, 365, 0, 1000);
+    let device = device.store_readings(readings);
+    let held = device.spread();
+    *out = [held.sum.0, held.lowest.0, held.highest.0];
 }
