@@ -1,5 +1,5 @@
-// The reading by the wiring, and the question for its figures, for the bench's C, apart from the calls that it is counted beside: in one library with them it would share
-// the reading of the inputs, which the compiler then calls and does not take in.
+// The reading by the wiring, and the question for its figures, for the bench's C; apart from the calls that the reading is counted beside: in one
+// library with them it would share the reading of the inputs, which the compiler then calls and does not take in.
 ghost use mathlib.Core.List.{[], _∷_};
 ghost use mathlib.Core.Path.{_≡_};
 ghost use Rattle.bus.specs.Transfers.{start};

@@ -1,10 +1,8 @@
--- The figures of a list that grows by one, and what they are: the lowest stands in the list and no number of it is below, and so the highest; the
--- sum lies between so many times the numbers' bounds. And a record of which nothing is read fits.
+-- The figures of a list that grows by one; and a record of which nothing is read fits.
 -- Assumes nothing.
 use mathlib.Core.Path.{_≡_, refl, sym, ap, _∙_}
 use mathlib.Core.List.{List, [], _∷_, _++_, map, foldl, foldl-append}
-use mathlib.Core.Logic.{⊎-elim}
-use Prim.Native.Nat.{ℕ, zero, suc, _*_, _≤_, _<_}
+use Prim.Native.Nat.{ℕ, zero, suc, _≤_, _<_}
 use native.Mathlib.Omega.{arith}
 use lib.IntN.{ℤ, pos, _+ℤ_}
 use lib.ListN.{length, take, getD, replicate, length-map, List·getD-map}

@@ -1,15 +1,14 @@
--- What the figures of a list are: the lowest stands in it and no number of it is below, the highest stands in it and none is above, and the sum lies
--- between so many times the numbers' bounds.
+-- What two figures of a list are: the lowest stands in it and no number of it is below, the highest stands in it and none is above.
 -- Assumes nothing.
 use mathlib.Core.Path.{_≡_, refl, sym, _∙_}
-use mathlib.Core.Bool.{Bool, true, false, not}
+use mathlib.Core.Bool.{Bool, true, false}
 use mathlib.Core.List.{List, [], _∷_, foldl}
 use mathlib.Core.Logic.{_⊎_, inl, inr}
-use Prim.Native.Nat.{ℕ, zero, suc, _+_, _*_, _≤_, _<_}
+use Prim.Native.Nat.{ℕ, zero, suc, _≤_, _<_}
 use native.Mathlib.Nat.{le-trans}
 use native.Mathlib.Omega.{arith}
 use lib.Dec.{T, leb→le, le→leb, ltb→lt}
-use lib.IntN.{ℤ, pos, negsuc, _+ℤ_}
+use lib.IntN.{ℤ, pos, negsuc}
 use lib.ListN.{length, getD}
 use lib.Signed.{leZ, ltZ, _≤ℤ_, ≤ℤ-refl, leZ-yes, ltZ-no}
 use Rattle.laws.specs.Choice.{if_then_else_}

@@ -1,7 +1,7 @@
-pub mod Extremes
 pub mod Agree
 pub mod BothLists
 pub mod ByRegisters
+mod Extremes
 pub mod Outcomes
 pub mod Spread
 mod Taken

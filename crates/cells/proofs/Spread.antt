@@ -1,15 +1,14 @@
 -- An accepted reading by the wiring: the figures that the record then holds are those of the cells in the caller's list. The lowest is one of these and
 -- none of them is below it, the highest is one and none is above it, and the sum is from -1920 to 391170.
 -- Assumes nothing.
-use mathlib.Core.Path.{_≡_, refl, sym, ap, subst⁻¹, _∙_}
+use mathlib.Core.Path.{_≡_, sym, ap, subst⁻¹, _∙_}
 use mathlib.Core.List.{List, [], _∷_, foldl, map}
-use Prim.Native.Nat.{ℕ, zero, suc, _+_, _*_, _≤_, _<_, min}
+use Prim.Native.Nat.{ℕ, suc, _+_, _*_, _≤_, _<_, min}
 use native.Mathlib.Omega.{arith}
 use lib.IntN.{ℤ, pos, negℤ, _+ℤ_}
 use lib.ListN.{length, take, drop, getD, length-map}
 use lib.Seq.{take-at, getD-take}
 use lib.Signed.{mag, _≤ℤ_}
-use Rattle.laws.specs.Over.{_over_}
 use Rattle.numbers.proofs.Between.{Between, of-add, wider, in-order}
 use Rattle.refusals.specs.Refusal.{value}
 use Rattle.wiring.specs.Tables.{fitted}
@@ -29,6 +28,7 @@ use Rattle.procedure.proofs.Reading.{by-call}
 use Rattle.cells.specs.declared.Cells.{Cells}
 use Rattle.cells.proofs.ByRegisters.{ByRegisters, by-registers, kth-between}
 use Rattle.cells.proofs.Extremes.{Stands, to-all, is-one, lowest, highest}
+use Rattle.cells.proofs.Taken.{some-cells}
 
 -- ---- of numbers that an input can have, the sum
 Ranged : List ℤ → Type 0
@@ -101,11 +101,14 @@ module _ (d : BQ769x0) (b : Bus) (inputs : List ℕ) (list : List ℤ) where
     pub none-above : (k : ℕ) → k < length cells → getD cells k (pos 0) ≤ℤ spread .highest .0
     none-above k h = rw of-the-list (to-all highest cells k h)
 
-    pub lowest-there : 1 ≤ length cells → Stands (spread .lowest .0) cells
-    lowest-there some = rw of-the-list (is-one lowest cells some)
+    some : 1 ≤ length cells
+    some = rw as-many-cells (some-cells (d .link .x) n (sound-pack d (read .sound)))
 
-    pub highest-there : 1 ≤ length cells → Stands (spread .highest .0) cells
-    highest-there some = rw of-the-list (is-one highest cells some)
+    pub lowest-there : Stands (spread .lowest .0) cells
+    lowest-there = rw of-the-list (is-one lowest cells some)
+
+    pub highest-there : Stands (spread .highest .0) cells
+    highest-there = rw of-the-list (is-one highest cells some)
 
     pub sum-range : ((i : ℕ) → getD (read .bytes) i 0 < 256) → mag (d .adc .offset) < 128
         → (negℤ (pos 1920) ≤ℤ spread .sum .0) × (spread .sum .0 ≤ℤ pos 391170)

@@ -44,6 +44,13 @@ Kept d d′ = (isSound d ≡ true → isSound d′ ≡ true) × (Fits d → Fits
 abbrev pub KeptWhole : BQ769x0 → BQ769x0 → Type 0
 KeptWhole d d′ = Kept d d′ × (d′ .readings ≡ d .readings)
 
+-- an init by value, whatever else it promises
+abbrev pub InitKeeps : Type 0
+InitKeeps =
+    (d : BQ769x0) (config : Config) (b : Bus) (r : Init) (log : List ℕ)
+    → ran (leaves (asInit (r .answer)) (r .device)) (b .tape) log (r .at) ≡ onTape (initBy stepsFor d config) b
+    → KeptWhole d (r .device)
+
 pub record EveryFunction : Type 0 where
   -- ---- what makes a record: nothing is read yet
   pub «bq769x0::BQ769x0::new» : (x address n : ℕ) (check : Bool) (r : New) → asNew r ≡ newFor x address n check
@@ -64,12 +71,8 @@ pub record EveryFunction : Type 0 where
   pub «setup::calibrate::read_adc_characteristics» : (d : BQ769x0) (b : Bus) (r : Calibrated) (log : List ℕ)
       → ran (leaves (asRaw (r .answer)) (r .device)) (b .tape) log (r .at) ≡ onTape (readAdcCharacteristics d) b
       → KeptWhole d (r .device)
-  pub «setup::init» : (d : BQ769x0) (config : Config) (b : Bus) (r : Init) (log : List ℕ)
-      → ran (leaves (asInit (r .answer)) (r .device)) (b .tape) log (r .at) ≡ onTape (initBy stepsFor d config) b
-      → KeptWhole d (r .device)
-  pub «recovered::init» : (d : BQ769x0) (config : Config) (b : Bus) (r : Init) (log : List ℕ)
-      → ran (leaves (asInit (r .answer)) (r .device)) (b .tape) log (r .at) ≡ onTape (initBy stepsFor d config) b
-      → KeptWhole d (r .device)
+  pub «setup::init» : InitKeeps
+  pub «recovered::init» : InitKeeps
   pub «in_place::init» : (d d′ : BQ769x0) (config : Config) (b : Bus) (r : Answered) (log : List ℕ)
       → ran (leaves (asInit (r .answer)) d′) (b .tape) log (r .at) ≡ onTape (initBy stepsFor d config) b
       → KeptWhole d d′

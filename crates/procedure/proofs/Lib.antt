@@ -1,10 +1,10 @@
 pub mod Converted
 pub mod Examples
+pub mod Fits
 pub mod Fitted
 pub mod Keeps
-pub mod Sound
-pub mod Fits
 pub mod Moved
 pub mod Reading
 pub mod Shows
+pub mod Sound
 pub mod Untouched
