@@ -15,7 +15,7 @@ use Rattle.adc.proofs.Gain.{gain_range, offset_range}
 use Rattle.frames.specs.Put.{put}
 use Rattle.frames.proofs.Put.{length_put}
 use Rattle.plan.specs.AsAsked.{AsAsked}
-use Rattle.refusals.specs.Order.{◌and_then◌}
+use Rattle.plan.specs.Order.{◌and_then◌}
 use Rattle.plan.specs.Plan.{Values, Planned, plan_for}
 use Rattle.plan.specs.Steps.{InMv, steps_for}
 use Rattle.plan.specs.declared.Config.{Config}

@@ -15,7 +15,7 @@ use Rattle.adc.specs.declared.transfer.AdcTransferFunction.{AdcTransferFunction}
 use Rattle.adc.proofs.Gain.{gain_range, offset_range}
 use Rattle.protection.specs.Steps.{scd_lower, scd_upper, ocd_lower, ocd_upper}
 use Rattle.plan.specs.Exactly.{of678, unfit}
-use Rattle.refusals.specs.Order.{◌and_then◌}
+use Rattle.plan.specs.Order.{◌and_then◌}
 use Rattle.plan.specs.Plan.{Values, Planned, plan_for}
 use Rattle.plan.specs.Steps.{InMv, steps_for}
 use Rattle.plan.specs.declared.Config.{Config}

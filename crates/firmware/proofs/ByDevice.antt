@@ -4,7 +4,7 @@ use mathlib.Core.Path.{◌≡◌, sym, ap, ◌∙◌}
 use mathlib.Core.List.{List}
 use Prim.Native.Nat.{ℕ}
 use Rattle.refusals.specs.Refusal.{Refusal, Answer, value, refused, refusal_in, number_of}
-use Rattle.refusals.specs.Order.{◌and_then◌}
+use Rattle.plan.specs.Order.{◌and_then◌}
 use Rattle.job.specs.Jobs.{device_for}
 use Rattle.job.specs.declared.Device.{Device}
 use Rattle.bus.specs.Transfers.{Bus}

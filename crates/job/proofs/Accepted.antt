@@ -20,7 +20,7 @@ use Rattle.fields.specs.Fields.{Field, field, unfield}
 use Rattle.fields.proofs.Fields.{field_of, unfield_field, field_unfield, said, lies}
 use Rattle.refusals.specs.Refusal.{value, refused, no}
 use Rattle.refusals.proofs.Values.{refused_not, same_value}
-use Rattle.refusals.specs.Order.{◌and_then◌}
+use Rattle.plan.specs.Order.{◌and_then◌}
 use Rattle.plan.specs.declared.Config.{Config}
 use Rattle.plan.proofs.Accepted.{first}
 use Rattle.job.specs.Jobs.{byte_at, number_at, signed_at, device_at, is_device, config_at, codes_at, is_config, passing, field_for, device_for, job_of}

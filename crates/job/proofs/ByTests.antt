@@ -12,7 +12,7 @@ use borrow.Author.Tests.{le-leb, lt-leb, leb-true, leb-false, eq-eqb, eqb-true}
 use Rattle.fields.specs.Fields.{Field, unfield}
 use Rattle.fields.proofs.Fields.{field_of, said, at_head, cut_short, all_there}
 use Rattle.refusals.specs.Refusal.{Answer, value, refused, no}
-use Rattle.refusals.specs.Order.{◌and_then◌}
+use Rattle.plan.specs.Order.{◌and_then◌}
 use Rattle.job.specs.Jobs.{byte_at, device_at, is_device, config_at, codes_at, is_config, passing, field_for, device_for, job_of, device_of, config_of}
 use Rattle.job.specs.Inside.{says_field, says_device, says_job}
 use Rattle.job.specs.declared.Device.{Device}

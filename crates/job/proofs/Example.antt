@@ -12,7 +12,7 @@ use Rattle.protection.specs.declared.delays.UVDelay.TheVariants as U
 use Rattle.protection.specs.declared.delays.OVDelay.TheVariants as W
 use Rattle.refusals.specs.Refusal.{value, refused, no}
 use Rattle.fields.specs.Fields.{field, unfield}
-use Rattle.refusals.specs.Order.{◌and_then◌}
+use Rattle.plan.specs.Order.{◌and_then◌}
 use Rattle.job.specs.Jobs.{is_device, codes_at, is_config, field_for, job_of}
 use Rattle.numbers.specs.Numbers.{four}
 use Rattle.job.specs.Encoding.{job_bytes}

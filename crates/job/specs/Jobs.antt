@@ -5,7 +5,7 @@ use Rattle.std.proofs.Math.Option.{Option, none, some}
 use Rattle.numbers.specs.Numbers.{word4, as_i32}
 use Rattle.fields.specs.Fields.{Field, unfield}
 use Rattle.refusals.specs.Refusal.{Answer, value, refused, no, as_refusal}
-use Rattle.refusals.specs.Order.{◌and_then◌}
+use Rattle.plan.specs.Order.{◌and_then◌}
 use Rattle.plan.specs.declared.Config.{Config}
 use Rattle.job.specs.Delays.{scd_delays, ocd_delays, uv_delays, ov_delays, scd_at, ocd_at, uv_at, ov_at}
 use Rattle.job.specs.declared.Device.{Device}

@@ -9,7 +9,7 @@ use Rattle.protection.specs.Ranges.{range_for, code_for}
 use Rattle.protection.specs.Steps.{step, mv_across}
 use Rattle.frames.specs.Frames.{write_frame, framed}
 use Rattle.frames.specs.Put.{put}
-use Rattle.refusals.specs.Order.{◌and_then◌}
+use Rattle.plan.specs.Order.{◌and_then◌}
 use Rattle.plan.specs.Plan.{set_for, plan_for}
 use Rattle.plan.specs.Registers.{protect_for}
 use Rattle.plan.specs.Steps.{shunt_for, steps_for}

@@ -13,7 +13,7 @@ use Rattle.protection.specs.declared.range.OCDSCDRange.{OCDSCDRange}
 use Rattle.protection.specs.declared.range.OCDSCDRange.TheVariants as R
 use Rattle.adc.specs.Trips.{reading_of, trip_code}
 use Rattle.plan.specs.Fields.{of_range}
-use Rattle.refusals.specs.Order.{◌and_then◌}
+use Rattle.plan.specs.Order.{◌and_then◌}
 use Rattle.plan.specs.Plan.{Planned, values_for, set_for, plan_for}
 use Rattle.plan.specs.Registers.{protect_of, protect_for}
 use Rattle.plan.specs.Trips.{trip_code_for}

@@ -14,13 +14,13 @@ use Rattle.protection.specs.Steps.{scd_lower, scd_upper, ocd_lower, ocd_upper}
 use Rattle.protection.specs.declared.range.OCDSCDRange.{OCDSCDRange}
 use Rattle.adc.specs.Trips.{reading_of, trip_code}
 use Rattle.plan.specs.Exactly.{is_no}
-use Rattle.refusals.specs.Order.{◌and_then◌}
+use Rattle.plan.specs.Order.{◌and_then◌}
 use Rattle.plan.specs.Plan.{Planned, set_for, plan_for}
 use Rattle.plan.specs.Steps.{bad_shunt}
 use Rattle.plan.specs.Trips.{trip_code_for, within_for}
 use Rattle.plan.specs.declared.Config.{Config}
 use Rattle.plan.proofs.Only.{Only, range_only, protect_only}
-use Rattle.refusals.proofs.Order.{past, out}
+use Rattle.plan.proofs.Order.{past, out}
 use Rattle.plan.proofs.Shunt.{good}
 
 -- the code of an asked voltage, where the gain is not 0

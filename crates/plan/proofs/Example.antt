@@ -11,7 +11,7 @@ use Rattle.protection.specs.declared.delays.OCDDelay.TheVariants as O
 use Rattle.protection.specs.declared.delays.UVDelay.TheVariants as U
 use Rattle.protection.specs.declared.delays.OVDelay.TheVariants as W
 use Rattle.protection.specs.declared.range.OCDSCDRange.TheVariants as R
-use Rattle.refusals.specs.Order.{◌and_then◌}
+use Rattle.plan.specs.Order.{◌and_then◌}
 use Rattle.plan.specs.Plan.{set_for, plan_for}
 use Rattle.plan.specs.Registers.{protect_for}
 use Rattle.plan.specs.Steps.{shunt_for, steps_for}

@@ -13,6 +13,7 @@ pub mod Needs
 pub mod Never20
 pub mod Obtained
 pub mod Only
+pub mod Order
 pub mod Places
 pub mod RangeMismatch
 pub mod ReadBack

@@ -18,7 +18,7 @@ use Rattle.plan.specs.Trips.{ov_limits, uv_limits, figures, obtainable, within_f
 use Rattle.plan.specs.declared.Config.{Config}
 use Rattle.plan.proofs.After.{choice, choice_only, rest, past_9, rest-number, after-6, shares}
 use Rattle.plan.proofs.Obtained.{obtained, unobtained}
-use Rattle.refusals.proofs.Order.{past, out}
+use Rattle.plan.proofs.Order.{past, out}
 use Rattle.plan.proofs.Apart.{choice_apart}
 use Rattle.plan.proofs.WithinNumbers.{within_7, within_8}
 

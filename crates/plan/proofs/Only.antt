@@ -11,7 +11,7 @@ use Rattle.protection.specs.Ranges.{range_bits, code_for, has_lower, has_upper, 
 use Rattle.protection.specs.Steps.{mv_across, chosen, step_for}
 use Rattle.protection.specs.declared.range.OCDSCDRange.{OCDSCDRange}
 use Rattle.protection.specs.declared.range.OCDSCDRange.TheVariants as R
-use Rattle.refusals.specs.Order.{◌and_then◌}
+use Rattle.plan.specs.Order.{◌and_then◌}
 use Rattle.plan.specs.Registers.{protect_for}
 use Rattle.plan.specs.Steps.{bad_shunt, shunt_for}
 use Rattle.plan.specs.Trips.{trip_code_for}

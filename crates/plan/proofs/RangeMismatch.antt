@@ -18,7 +18,7 @@ use Rattle.plan.specs.declared.Config.{Config}
 use Rattle.plan.proofs.WithinNumbers.{within_other}
 use Rattle.plan.proofs.After.{choice, choice_only, rest, past_9, next_not, rest-number}
 use Rattle.plan.proofs.Only.{Only}
-use Rattle.refusals.proofs.Order.{out}
+use Rattle.plan.proofs.Order.{out}
 use Rattle.plan.proofs.Apart.{choice_apart}
 
 pub range-mismatch :

@@ -9,7 +9,7 @@ use lib.Dec.{eqb}
 use lib.IntN.{ℤ}
 use Rattle.refusals.specs.Refusal.{Answer, value, refused, no}
 use Rattle.plan.specs.Exactly.{is_no}
-use Rattle.refusals.specs.Order.{◌and_then◌}
+use Rattle.plan.specs.Order.{◌and_then◌}
 use Rattle.plan.specs.Trips.{ov_limits, uv_limits, figures, obtainable, obtainable_or, within_for}
 
 abbrev test : Bool → ℕ → List ℤ → Answer (Unit {0})

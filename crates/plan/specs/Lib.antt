@@ -1,3 +1,4 @@
+pub mod Order
 pub mod Steps
 pub mod Trips
 pub mod Registers

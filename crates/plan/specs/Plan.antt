@@ -7,7 +7,7 @@ use Rattle.protection.specs.Steps.{scd_lower, scd_upper, ocd_lower, ocd_upper}
 use Rattle.protection.specs.declared.range.OCDSCDRange.{OCDSCDRange}
 use Rattle.adc.specs.Conversion.{millivolts}
 use Rattle.adc.specs.Trips.{ov_trip, uv_trip}
-use Rattle.refusals.specs.Order.{◌and_then◌}
+use Rattle.plan.specs.Order.{◌and_then◌}
 use Rattle.plan.specs.Steps.{shunt_for}
 use Rattle.plan.specs.Trips.{trip_code_for, within_for}
 use Rattle.plan.specs.Registers.{protect_for}

@@ -6,7 +6,7 @@ use Rattle.protection.specs.Delays.{scd_bits, ocd_bits, uv_bits, ov_bits}
 use Rattle.protection.specs.Ranges.{range_bits, code_for}
 use Rattle.protection.specs.Steps.{scd_lower, scd_upper, ocd_lower, ocd_upper}
 use Rattle.protection.specs.declared.range.OCDSCDRange.{OCDSCDRange}
-use Rattle.refusals.specs.Order.{◌and_then◌}
+use Rattle.plan.specs.Order.{◌and_then◌}
 use Rattle.plan.specs.declared.Config.{Config}
 use Rattle.plan.specs.declared.six_bytes.Protect.{Protect}
 

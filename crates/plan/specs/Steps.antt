@@ -5,7 +5,7 @@ use Rattle.refusals.specs.Refusal.{Answer, value, refused, refused_if, as_refusa
 use Rattle.protection.specs.Steps.{scd_lower, scd_upper, ocd_lower, ocd_upper, step, step_for}
 use Rattle.protection.specs.Scd as scd
 use Rattle.protection.specs.Ocd as ocd
-use Rattle.refusals.specs.Order.{◌and_then◌}
+use Rattle.plan.specs.Order.{◌and_then◌}
 use Rattle.plan.specs.declared.Config.{Config}
 use Rattle.plan.specs.declared.Steps.{Steps}
 use Rattle.plan.specs.declared.StepsAnswer.{StepsAnswer}

@@ -5,7 +5,7 @@ use Rattle.std.specs.Int.Signed.{le_z}
 use Rattle.refusals.specs.Refusal.{Answer, value, refused, no}
 use Rattle.adc.specs.Trips.{ov_trip, uv_trip, limits, asked_reading, trip_code}
 use Rattle.adc.specs.declared.transfer.Limits.{Limits}
-use Rattle.refusals.specs.Order.{◌and_then◌}
+use Rattle.plan.specs.Order.{◌and_then◌}
 
 -- the code for an asked voltage; a gain of 0 is 9
 unfoldable pub trip_code_for : ℕ → ℤ → ℤ → Answer ℕ

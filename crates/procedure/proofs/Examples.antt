@@ -17,7 +17,7 @@ use Rattle.protection.specs.declared.delays.UVDelay.TheVariants as UD
 use Rattle.protection.specs.declared.delays.OVDelay.TheVariants as VD
 use Rattle.frames.specs.Frames.{write_frame, framed}
 use Rattle.frames.specs.Put.{put}
-use Rattle.refusals.specs.Order.{◌and_then◌}
+use Rattle.plan.specs.Order.{◌and_then◌}
 use Rattle.plan.specs.Plan.{Values, set_for, plan_for}
 use Rattle.plan.specs.Registers.{protect_for}
 use Rattle.plan.specs.Steps.{shunt_for, steps_for}

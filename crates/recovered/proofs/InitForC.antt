@@ -7,7 +7,7 @@ use mathlib.Core.Option.{Option}
 use Prim.Native.Nat.{ℕ, max}
 use native.Mathlib.Omega.{arith}
 use Rattle.refusals.specs.Refusal.{Refusal, Answer, value, refused, no}
-use Rattle.refusals.specs.Order.{◌and_then◌}
+use Rattle.plan.specs.Order.{◌and_then◌}
 use Rattle.plan.specs.Steps.{steps_for}
 use Rattle.plan.specs.Plan.{Values}
 use Rattle.job.specs.Jobs.{device_of, config_of}

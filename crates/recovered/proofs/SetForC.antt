@@ -8,7 +8,7 @@ use Prim.Native.Nat.{ℕ, ◌+◌, ◌^◌, ◌≤◌, ◌<◌}
 use native.Mathlib.Omega.{arith}
 use Rattle.refusals.specs.Refusal.{Refusal, Answer, value, refused, no, number_of}
 use Rattle.check_byte.specs.CheckByte.{Bytes}
-use Rattle.refusals.specs.Order.{◌and_then◌}
+use Rattle.plan.specs.Order.{◌and_then◌}
 use Rattle.job.specs.Jobs.{device_of}
 use Rattle.job.specs.Inside.{says_device}
 use Rattle.job.proofs.ByTests.{device_by_tests}

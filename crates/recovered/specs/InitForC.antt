@@ -3,7 +3,7 @@
 use Rattle.std.specs.Prelude.{◌≡◌, Bool, true, List, ℕ}
 use Rattle.std.proofs.Math.Option.{Option}
 use Rattle.refusals.specs.Refusal.{Answer, value, refused, number_of}
-use Rattle.refusals.specs.Order.{◌and_then◌}
+use Rattle.plan.specs.Order.{◌and_then◌}
 use Rattle.plan.specs.Steps.{steps_for}
 use Rattle.plan.specs.InNumbers.{init_numbers}
 use Rattle.job.specs.Jobs.{config_of, job_of}

@@ -17,7 +17,7 @@ use Rattle.protection.specs.declared.range.OCDSCDRange.TheVariants as R
 use Rattle.check_byte.specs.CheckByte.{check_byte, divide, line, coefficient, divisor, number}
 use Rattle.frames.specs.Frames.{read_byte, write_byte, checked, right, data_of, write_frame, read_frame, framed}
 use Rattle.frames.specs.Put.{put}
-use Rattle.refusals.specs.Order.{◌and_then◌}
+use Rattle.plan.specs.Order.{◌and_then◌}
 use Rattle.plan.specs.Plan.{set_for, plan_for}
 use Rattle.plan.specs.Registers.{protect_for}
 use Rattle.plan.specs.Steps.{shunt_for, steps_for}

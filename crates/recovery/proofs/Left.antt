@@ -12,7 +12,7 @@ use Rattle.adc.specs.Registers.{calibration}
 use Rattle.adc.specs.declared.transfer.AdcTransferFunction.{AdcTransferFunction}
 use Rattle.frames.specs.Put.{put}
 use Rattle.frames.proofs.Put.{put_none}
-use Rattle.refusals.specs.Order.{◌and_then◌}
+use Rattle.plan.specs.Order.{◌and_then◌}
 use Rattle.plan.specs.Steps.{InMv}
 use Rattle.plan.specs.Plan.{Planned, plan_for}
 use Rattle.plan.specs.declared.Config.{Config}

@@ -1,3 +1,2 @@
 pub mod OneToOne
-pub mod Order
 pub mod Values

@@ -36,9 +36,6 @@ cases reg first second =
     E.NotOnDevice ∷
     E.Neighbours ∷
     E.TooManyCells ∷
-    E.ThermistorOpen ∷
-    E.BadTable ∷
-    E.OutsideTable ∷
     []
 
 abbrev pub case_of : Row → Error

@@ -66,9 +66,6 @@ as_refusal E.NoSuchInput = no 21 []
 as_refusal E.NotOnDevice = no 22 []
 as_refusal E.Neighbours = no 23 []
 as_refusal E.TooManyCells = no 24 []
-as_refusal E.ThermistorOpen = no 25 []
-as_refusal E.BadTable = no 26 []
-as_refusal E.OutsideTable = no 27 []
 
 -- the same as the code hands it on: the count of the figures, and zero for one that is not there
 abbrev pub in_numbers : Refusal → InNumbers

@@ -31,9 +31,6 @@ pub enum Error {
     NotOnDevice,
     Neighbours,
     TooManyCells,
-    ThermistorOpen,
-    BadTable,
-    OutsideTable,
 }
 
 // A refusal as numbers: its number, how many figures it names, and those; a figure that it does not name is 0.
@@ -90,9 +87,6 @@ impl Error {
             Error::NotOnDevice => Row(22, 0, 0, 0, 0),
             Error::Neighbours => Row(23, 0, 0, 0, 0),
             Error::TooManyCells => Row(24, 0, 0, 0, 0),
-            Error::ThermistorOpen => Row(25, 0, 0, 0, 0),
-            Error::BadTable => Row(26, 0, 0, 0, 0),
-            Error::OutsideTable => Row(27, 0, 0, 0, 0),
         }
     }
 }

@@ -5,7 +5,7 @@ use mathlib.Core.List.{map}
 use Rattle.protection.specs.Steps.{step, mv_across}
 use Rattle.protection.specs.Ranges.{range_for, code_for}
 use Rattle.check_byte.specs.CheckByte.{check_byte, divide, line, coefficient, divisor, number}
-use Rattle.refusals.specs.Order.{◌and_then◌}
+use Rattle.plan.specs.Order.{◌and_then◌}
 use Rattle.plan.specs.Plan.{set_for, plan_for}
 use Rattle.plan.specs.Registers.{protect_for}
 use Rattle.plan.specs.Steps.{shunt_for, steps_for}

@@ -12,7 +12,7 @@ use Rattle.adc.specs.Registers.{gain_of}
 use Rattle.adc.specs.Conversion.{millivolts, milliamperes}
 use Rattle.moves.specs.Moves.{inputs_of}
 use Rattle.check_byte.specs.CheckByte.{check_byte}
-use Rattle.refusals.specs.Order.{◌and_then◌}
+use Rattle.plan.specs.Order.{◌and_then◌}
 use Rattle.plan.specs.Steps.{steps_for}
 use Rattle.plan.specs.Plan.{Values, plan_for}
 use Rattle.plan.specs.Fields.{Fields, read_back}

@@ -9,7 +9,7 @@ use Rattle.protection.specs.Steps.{scd_lower, scd_upper, step_for}
 use Rattle.plan.specs.Steps.{shunt_for, steps_for}
 use Rattle.plan.specs.declared.Config.{Config}
 use Rattle.plan.proofs.Only.{step_only}
-use Rattle.refusals.proofs.Order.{past, out}
+use Rattle.plan.proofs.Order.{past, out}
 use Rattle.plan.proofs.Shunt.{bad, good}
 use Rattle.plan.proofs.Config.steps.Statement.{statement}
 use Rattle.plan.proofs.Config.steps.Tie as tie

@@ -11,13 +11,13 @@ use Rattle.protection.specs.Answers.{as_range}
 use Rattle.protection.specs.Scd as scd
 use Rattle.protection.specs.Ocd as ocd
 use Rattle.protection.specs.declared.range.OCDSCDRange.{OCDSCDRange}
-use Rattle.refusals.specs.Order.{◌and_then◌}
+use Rattle.plan.specs.Order.{◌and_then◌}
 use Rattle.plan.specs.Plan.{Planned, with_bytes, plan_for}
 use Rattle.plan.specs.Steps.{bad_shunt}
 use Rattle.plan.specs.Inside.{as_within}
 use Rattle.plan.specs.declared.Config.{Config}
 use Rattle.plan.proofs.After.{choice, choice_only, settled, rest, only_9, past_9}
-use Rattle.refusals.proofs.Order.{past, out}
+use Rattle.plan.proofs.Order.{past, out}
 use Rattle.plan.proofs.Shunt.{bad, positive}
 use Rattle.plan.proofs.six_bytes.plan.Statement.{statement}
 use Rattle.plan.proofs.six_bytes.plan.Tie as tie

@@ -11,7 +11,7 @@ use Rattle.protection.specs.Steps.{scd_lower, scd_upper, ocd_lower, ocd_upper}
 use Rattle.plan.specs.Registers.{protect_for}
 use Rattle.plan.proofs.Fits.{range<, scd_code<, ocd_code<, range_bit_is, step-code-is}
 use Rattle.plan.proofs.Only.{range_bits_only, step_code_only}
-use Rattle.refusals.proofs.Order.{past, out}
+use Rattle.plan.proofs.Order.{past, out}
 use Rattle.plan.proofs.six_bytes.protect_bytes.Statement.{statement}
 use Rattle.plan.proofs.six_bytes.protect_bytes.Tie as tie
 

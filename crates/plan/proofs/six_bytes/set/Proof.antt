@@ -12,7 +12,7 @@ use Rattle.plan.specs.Inside.{as_protect}
 use Rattle.plan.specs.declared.Config.{Config}
 use Rattle.plan.specs.declared.six_bytes.Protect.{Protect}
 use Rattle.plan.proofs.Only.{protect_only}
-use Rattle.refusals.proofs.Order.{past, out}
+use Rattle.plan.proofs.Order.{past, out}
 use Rattle.plan.proofs.six_bytes.set.Statement.{statement}
 use Rattle.plan.proofs.six_bytes.set.Tie as tie
 

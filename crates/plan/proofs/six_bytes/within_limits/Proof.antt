@@ -7,7 +7,7 @@ use lib.IntN.{ℤ}
 use Rattle.refusals.specs.Refusal.{Answer, value, refused, no}
 use Rattle.plan.specs.Trips.{ov_limits, figures, obtainable_or, within_for}
 use Rattle.plan.proofs.Obtained.{obtained, unobtained}
-use Rattle.refusals.proofs.Order.{past, out}
+use Rattle.plan.proofs.Order.{past, out}
 use Rattle.plan.proofs.six_bytes.within_limits.Statement.{statement}
 use Rattle.plan.proofs.six_bytes.within_limits.Tie as tie
 

@@ -2,7 +2,7 @@
 -- Assumes nothing.
 use mathlib.Core.Path.{◌≡◌, ap}
 use Rattle.refusals.specs.Refusal.{Answer, value, refused, Refusal}
-use Rattle.refusals.specs.Order.{◌and_then◌}
+use Rattle.plan.specs.Order.{◌and_then◌}
 
 module _ {A B : Type 0} {a : Answer A} (next : A → Answer B) where
   pub past : (x : A) → a ≡ value x → a and_then next ≡ next x
