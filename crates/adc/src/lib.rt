@@ -1,4 +1,6 @@
 // From the converter's readings to volts and amperes, and from asked volts to the codes of the trip registers.
+#![tactic(auto)]
+
 pub mod counter;
 mod round;
 pub mod transfer;

@@ -1,6 +1,8 @@
 // Demand 2: that a call sets what was asked, as its own log and tape show it.
 // A function here is a call of the driver, under demand 2 for a contract in place of the call's own promise. Nothing calls it: it is there so that
 // the demand is held to the code, on every input.
+#![tactic(auto)]
+
 ghost use Rattle.plan.specs.Plan.{as_init};
 ghost use Rattle.bq769x0.specs.Record.{leaves};
 ghost use Rattle.runs.specs.Calls.{lent_call};

@@ -1,5 +1,7 @@
 // Four calls for the bench's C, each on a tape and a log that nothing is used of: the number, 0 where accepted,
 // and in out how far tape and log are then used, and the answer's value as a number.
+#![tactic(auto)]
+
 ghost use Rattle.std.specs.Prelude.{◌≡◌, []};
 ghost use Rattle.bus.specs.Transfers.{start};
 ghost use Rattle.bus.specs.Programs.{on_tape};

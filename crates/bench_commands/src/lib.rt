@@ -1,4 +1,6 @@
 // The register commands for the bench's C, each on a tape and a log that nothing is used of: as the calls of `bench` are.
+#![tactic(auto)]
+
 ghost use Rattle.std.specs.Prelude.{◌≡◌, []};
 ghost use Rattle.bus.specs.Transfers.{start};
 ghost use Rattle.bus.specs.Programs.{on_tape};

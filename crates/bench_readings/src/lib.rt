@@ -1,5 +1,7 @@
 // The cells by the crate's list and the current for the bench's C, apart from the other calls: in one library with `read_raw`, which
 // reads the inputs too, or with the pack's voltage, which reads two registers too, the compiler calls what they share and takes it into none.
+#![tactic(auto)]
+
 ghost use Rattle.std.specs.Prelude.{◌≡◌, []};
 ghost use Rattle.numbers.specs.Numbers.{as_u32};
 ghost use Rattle.bus.specs.Transfers.{start};

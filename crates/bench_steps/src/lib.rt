@@ -1,4 +1,6 @@
 // The choice of a step for the bench's C: the millivolts of the step that a number of millivolts is given.
+#![tactic(auto)]
+
 ghost use Rattle.std.specs.Prelude.{◌≡◌, ◌++◌};
 ghost use Rattle.protection.specs.Steps.{scd_lower, scd_upper, ocd_lower, ocd_upper, step};
 

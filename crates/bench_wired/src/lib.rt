@@ -1,5 +1,7 @@
 // The reading by the wiring, and the question for its figures, for the bench's C; apart from the calls that the reading is counted beside: in one
 // library with them it would share the reading of the inputs, which the compiler then calls and does not take in.
+#![tactic(auto)]
+
 ghost use Rattle.std.specs.Prelude.{[], ◌∷◌, ◌≡◌};
 ghost use Rattle.bus.specs.Transfers.{start};
 ghost use Rattle.bus.specs.Programs.{on_tape};

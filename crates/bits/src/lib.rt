@@ -1,4 +1,6 @@
 // The bits of a register's byte, by a mask: tested, and changed.
+#![tactic(auto)]
+
 ghost use Rattle.std.specs.Prelude.{◌≡◌};
 ghost use Rattle.bits.specs.Bits.{holds, placed, switched, stands, thermistor};
 

@@ -1,4 +1,6 @@
 // The driver's record.
+#![tactic(auto)]
+
 use adc::transfer::AdcTransferFunction;
 use bus::link::Link;
 use units::{MicroOhms, MilliVolts};

@@ -1,4 +1,6 @@
 // What a call does on the bus is a program over transfers (specs/); here is what it takes and answers.
+#![tactic(auto)]
+
 pub mod link;
 
 // How far tape and log are used.

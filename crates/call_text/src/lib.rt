@@ -1,4 +1,6 @@
 // The calls of a bench job: each one's transfers and its answer printed, and the record last of all.
+#![tactic(auto)]
+
 use crate::making::Told;
 use crate::state::State;
 use calls::FieldAnswer;

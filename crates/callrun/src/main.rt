@@ -1,4 +1,6 @@
 // Reads a device, calls and their tape from standard input, makes the calls in turn, and prints each one's transfers and answer, and the record.
+#![tactic(auto)]
+
 use bq769x0::BQ769x0;
 use bq769x0::record::NewAnswer;
 use bus::Cursor;

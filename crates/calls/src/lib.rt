@@ -1,4 +1,6 @@
 // The head of a run of calls: field 20, the device, then call fields, then field 3F with no value. The tape follows.
+#![tactic(auto)]
+
 ghost use Rattle.std.specs.Prelude.{◌≡◌, length, drop};
 ghost use Rattle.calls.specs.Shapes.{shape_of, below, reads, fits, lawful};
 ghost use Rattle.calls.specs.Heads.{field_at, as_field, end_from, heading_of, as_head};

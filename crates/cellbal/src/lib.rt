@@ -1,4 +1,6 @@
 // A set of inputs to be balanced, as one number: whether it may be, and its registers.
+#![tactic(auto)]
+
 ghost use Rattle.std.specs.Prelude.{◌≡◌};
 ghost use Rattle.refusals.specs.Refusal.{as_refusal, refusal_in};
 ghost use Rattle.cellbal.specs.Rules.{not_on_device, neighbours, too_many, allowed, as_judged};

@@ -1,4 +1,6 @@
 // The cells: all inputs read at once, listed as the crate does and by the datasheet's wiring, and stored in the record.
+#![tactic(auto)]
+
 ghost use Rattle.std.specs.Prelude.{◌≡◌};
 
 use bq769x0::BQ769x0;

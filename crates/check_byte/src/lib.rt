@@ -4,6 +4,8 @@
 // x^8 leaves x^2 + x + 1, so a number times x^8 leaves what it leaves times x^2 + x + 1: two shifts. That grows a remainder by two
 // bits, and three bytes are taken in before it is cut back. There is no table: a constant array is laid out on the stack anew by
 // each call that reads it, and costs more than the shifts.
+#![tactic(auto)]
+
 ghost use Rattle.std.specs.Prelude.{◌≡◌, [], ◌∷◌, ◌^◌, ◌<◌};
 ghost use Rattle.std.specs.Int.Bits.{bit_xor};
 ghost use Rattle.check_byte.specs.CheckByte.{divide, check_byte};

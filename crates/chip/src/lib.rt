@@ -1,5 +1,7 @@
 // The model chip of a battery monitor: 256 registers behind a bus address, with check bytes or without.
 // `specs/Chip.antt` says what it does.
+#![tactic(auto)]
+
 ghost use Rattle.std.specs.Prelude.{◌≡◌, true, [], ◌∷◌, ℕ, ◌+◌, ◌≤◌, ◌<◌, leb, length, get_or};
 ghost use Rattle.frames.specs.Frames.{write_byte};
 ghost use Rattle.bus.specs.Transfers.{write};

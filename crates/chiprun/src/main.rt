@@ -1,5 +1,7 @@
 // Reads a device, registers, cuts and calls from standard input. Makes the calls in turn on the model chip, prints what callrun prints of them, and
 // last the tape that the chip's answers make up.
+#![tactic(auto)]
+
 use bq769x0::BQ769x0;
 use bq769x0::record::NewAnswer;
 use bus::Cursor;

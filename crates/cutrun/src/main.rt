@@ -1,6 +1,8 @@
 // Demand 3 run on model chips, with check bytes and without: `init`, and `balance_set`, are cut at each of their transfers after each number of its
 // bytes, once and twice, and then made again on a whole bus: with the record that the cut left, with a new record, and of another configuration or
 // set.
+#![tactic(auto)]
+
 use bq769x0::BQ769x0;
 
 mod bench;

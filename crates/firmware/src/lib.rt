@@ -1,4 +1,6 @@
 // For C: setting up and balancing, by a job, a tape and a log, with a number and 36 bytes out; and three questions that one byte answers.
+#![tactic(auto)]
+
 ghost use Rattle.std.specs.Prelude.{◌≡◌};
 ghost use Rattle.bus.specs.Transfers.{start};
 ghost use Rattle.bus.specs.Programs.{on_tape};

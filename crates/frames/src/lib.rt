@@ -1,5 +1,7 @@
 // What goes over the bus of a BQ769x0 battery monitor, with check bytes and without: the frame of a write is made, and the frame of
 // a read is tested and its data taken out. `specs/Frames.antt` has the datasheet's rule.
+#![tactic(auto)]
+
 ghost use Rattle.std.specs.Prelude.{◌≡◌, [], ◌∷◌, ◌+◌, ◌*◌, ◌≤◌, ◌<◌, length, take, drop, replicate};
 ghost use Rattle.laws.specs.Choice.{if◌then◌else◌};
 ghost use Rattle.frames.specs.Frames.{write_byte, read_byte, checked, right, data_of, written_frame};

@@ -1,5 +1,7 @@
 // `init` and both readings of the cells on a record that is lent, and changed in place: each is the function by value,
 // and the record written back.
+#![tactic(auto)]
+
 ghost use Rattle.plan.specs.Steps.{steps_for};
 ghost use Rattle.plan.specs.Plan.{as_init};
 ghost use Rattle.bus.specs.Lent.{does};

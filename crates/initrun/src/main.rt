@@ -1,4 +1,6 @@
 // Reads one job with its tape from standard input, sets up by it, and prints the transfers made and the answer.
+#![tactic(auto)]
+
 use bus::Cursor;
 use job::{DeviceAnswer, JobAnswer};
 use lines::refused;

@@ -1,4 +1,6 @@
 // The job at the head of the printing program's input: field 20, the device, and field 21, the configuration. The tape follows.
+#![tactic(auto)]
+
 ghost use Rattle.std.specs.Prelude.{◌≡◌, ◌+◌, ◌≤◌, ◌<◌, length};
 ghost use Rattle.job.specs.Jobs.{number_at, signed_at, codes_at, is_config, device_of, config_at, device_for};
 ghost use Rattle.job.specs.Jobs.{as_device, config_for, as_config, job_of, as_job};

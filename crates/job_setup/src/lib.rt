@@ -1,4 +1,6 @@
 // A job set up: the device that it names is made, and set up by its configuration.
+#![tactic(auto)]
+
 ghost use Rattle.bus.specs.Transfers.{start};
 ghost use Rattle.bus.specs.Lent.{does};
 ghost use Rattle.plan.specs.Plan.{as_init};

@@ -1,4 +1,6 @@
 // What C is given in bytes, every number high byte first: the 36 bytes of an init, and a list of cells.
+#![tactic(auto)]
+
 ghost use Rattle.std.specs.Prelude.{◌≡◌, ◌+◌, ◌≤◌, length};
 ghost use Rattle.frames.specs.Put.{put};
 ghost use Rattle.numbers.specs.Numbers.{four, eight};

@@ -1,4 +1,6 @@
 // The lines of one call: its transfers, and what it answered.
+#![tactic(auto)]
+
 use bus::Cursor;
 use plan::{CalculatedValues, InitAnswer};
 

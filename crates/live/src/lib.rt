@@ -1,5 +1,7 @@
 // The calls that C has, made in passes on a live bus: each is the call, with what the passes of include/bq769x0_live.h stand on for a
 // contract. Nothing calls them: they are there so that it is held to the code, on every input.
+#![tactic(auto)]
+
 ghost use Rattle.firmware.specs.Handed.{handed};
 ghost use Rattle.firmware.specs.JobWired.{handed_both};
 ghost use Rattle.live.specs.Passes.{InitLive, CellsLive, WiredLive, SetLive, GetLive};

@@ -1,4 +1,6 @@
 // Measuring: the current, the pack's voltage and the temperature.
+#![tactic(auto)]
+
 pub mod degrees;
 pub mod pack;
 pub mod temperature;

@@ -1,4 +1,6 @@
 // The moves of the crate's `cell_voltages`, in its order: by X and the count alone, one cell goes over another.
+#![tactic(auto)]
+
 ghost use Rattle.std.specs.Prelude.{◌≡◌, pos};
 ghost use Rattle.moves.specs.Moves.{moves, in_turn};
 

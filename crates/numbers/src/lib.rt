@@ -1,4 +1,6 @@
 // The crate's casts between signed and unsigned numbers, and numbers as bytes, high byte first.
+#![tactic(auto)]
+
 ghost use Rattle.std.specs.Prelude.{◌≡◌, ◌*◌, ◌<◌, ◌≤◌};
 ghost use Rattle.numbers.specs.Numbers.{word, word4, word8, four, eight, twos, as_i8, as_i16, as_i32, as_u32};
 

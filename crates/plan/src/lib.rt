@@ -1,4 +1,6 @@
 // What `init` is asked for, and what it will write: the crate's Config and CalculatedValues, the choice of steps, and the plan.
+#![tactic(auto)]
+
 ghost use Rattle.std.specs.Prelude.{◌≡◌};
 ghost use Rattle.plan.specs.Steps.{bad_shunt};
 

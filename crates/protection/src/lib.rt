@@ -1,4 +1,6 @@
 // The chip's protection settings: the delays, and the steps at which a short circuit (SCD) and an overcurrent (OCD) trip.
+#![tactic(auto)]
+
 ghost use Rattle.std.specs.Prelude.{◌≡◌};
 ghost use Rattle.protection.specs.Answers.{as_code};
 ghost use Rattle.protection.specs.Inside.{as_across};

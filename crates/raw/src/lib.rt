@@ -1,4 +1,6 @@
 // The chip's registers, read and written over a link, with check bytes or without.
+#![tactic(auto)]
+
 ghost use Rattle.std.specs.Prelude.{◌≡◌, ◌+◌, ◌*◌, ◌^◌, ◌≤◌, ◌<◌, length, replicate, take};
 ghost use Rattle.frames.specs.Put.{put};
 ghost use Rattle.bus.specs.Lent.{does};

@@ -1,5 +1,7 @@
 // Calls of the driver once more, each with demand 3 beside its promise: `init` and `balance_set`, and both for C; and `balance_get` with what it
 // reads on a chip.
+#![tactic(auto)]
+
 ghost use Rattle.std.specs.Prelude.{◌≡◌};
 ghost use Rattle.plan.specs.Steps.{steps_for};
 ghost use Rattle.plan.specs.Plan.{as_init};

@@ -1,4 +1,6 @@
 // What a call refuses with: the crate's errors, then those that are added here.
+#![tactic(auto)]
+
 ghost use Rattle.std.specs.Prelude.{◌≡◌};
 ghost use Rattle.refusals.specs.Refusal.{as_refusal, in_numbers};
 ghost use Rattle.refusals.specs.Inside.{case_of, row_numbers};

@@ -1,5 +1,7 @@
 // The rows of the scope's table, the check byte's published vectors, and lines of docs/DIFFERENCES.md: each is run, and printed with what it
 // should be.
+#![tactic(auto)]
+
 mod beyond;
 mod lists;
 mod print;

@@ -1,4 +1,6 @@
 // The devices: the count of a device's inputs, and the counts of cells that a pack on it may have.
+#![tactic(auto)]
+
 ghost use Rattle.std.specs.Prelude.{◌≡◌};
 ghost use Rattle.sizes.specs.Sizes.{is_size, is_count};
 

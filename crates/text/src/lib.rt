@@ -1,4 +1,6 @@
 // What the programs print on standard output: words and numbers; and the same aside, on standard error, for a person.
+#![tactic(auto)]
+
 use libc::{STDERR_FILENO, STDOUT_FILENO};
 
 pub const OUT: i32 = STDOUT_FILENO;

@@ -1,4 +1,6 @@
 // The crate's units and two more, each a type of its own, and the chip's status flags.
+#![tactic(auto)]
+
 pub mod flags;
 
 #[derive(Drop)]

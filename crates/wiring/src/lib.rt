@@ -1,3 +1,5 @@
 // Packs: which inputs of a device carry its cells, by the datasheet's tables.
+#![tactic(auto)]
+
 pub mod questions;
 pub mod tables;
