@@ -1,6 +1,6 @@
 -- The least and the greatest that a formula can give: what is known of its parts, carried through sum, product and quotient.
 -- Assumes nothing.
-use Rattle.std.proofs.Common.{◌≡◌, ℕ, zero, suc, ◌+◌, ◌-◌, ◌*◌, ◌/◌, ◌<◌, ◌≤◌, Bool, true, false, ltb, ℤ, pos, negsuc, ◌+ℤ◌, ◌*ℤ◌, neg_ℤ, ◌≤ℤ◌, refl, le_trans, le_refl, mul-le-mul, le-div_iff_mul-le, div-mul-le_self, arith, le→leb, ltb-false, ltb-true}
+use Rattle.std.proofs.Common.{◌≡◌, ℕ, zero, suc, ◌+◌, ◌*◌, ◌/◌, ◌<◌, ◌≤◌, Bool, true, false, ltb, ℤ, pos, negsuc, ◌+ℤ◌, ◌*ℤ◌, neg_ℤ, ◌≤ℤ◌, refl, le_trans, le_refl, mul-le-mul, le-div_iff_mul-le, div-mul-le_self, arith, le→leb, ltb-false, ltb-true}
 use mathlib.Core.Path.{subst⁻¹}
 use lib.IntN.{+ℤ_comm}
 use lib.Signed.{mag, le_z_yes}

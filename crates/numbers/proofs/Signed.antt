@@ -3,7 +3,7 @@
 -- Assumes nothing.
 use Rattle.std.proofs.Common.{◌≡◌, ℕ, zero, suc, ◌+◌, ◌-◌, ◌*◌, ◌/◌, ◌^◌, ◌<◌, ◌≤◌, Bool, true, false, cond, T, ltb, leb, ℤ, pos, negsuc, ◌+ℤ◌, ◌-ℤ◌, ◌*ℤ◌, neg_ℤ, nat_abs, sym, refl, ap, ◌∙◌, subst, true≢false, le_refl, lt_of_lt_of_le, lt_of_le_of_lt, mod-lt, mul-le-mul, arith, leb→le, pow_mono, to_z-of_z, w8, w16, w32, w64, Fits, SFits, to_z, of_z, rules, ltb-false, ltb-true, le-ltb, lt-ltb}
 use lib.IntN.{sub_ℕ}
-use lib.Signed.{mag, non_neg, lt_z, quot_z}
+use lib.Signed.{mag, lt_z, quot_z}
 use mir.Syntax.{Width}
 use mir.Facts.{sfits_widen, to_z_pos}
 use mir.Val.{bits, hbits}
