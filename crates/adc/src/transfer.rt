@@ -9,7 +9,7 @@ use crate::round;
 use refusals::Error;
 use units::MilliVolts;
 
-#[derive(Drop)]
+#[derive(Clone, Copy)]
 pub struct AdcTransferFunction {
     pub gain: u16,
     pub offset: i8,
