@@ -46,8 +46,7 @@ pub fn record_by(
     BQ769x0::of_parts(link, cell_count, adc, MicroOhms(shunt), shunt != 0)
 }
 
-#[unsafe(no_mangle)]
-pub extern "C" fn bench_read_raw(
+pub fn bench_read_raw(
     x: u8,
     address: u8,
     check: bool,
@@ -67,8 +66,7 @@ pub extern "C" fn bench_read_raw(
     told::done(answer, at, out)
 }
 
-#[unsafe(no_mangle)]
-pub extern "C" fn bench_write_raw(
+pub fn bench_write_raw(
     x: u8,
     address: u8,
     check: bool,
@@ -88,8 +86,7 @@ pub extern "C" fn bench_write_raw(
     told::done(answer, at, out)
 }
 
-#[unsafe(no_mangle)]
-pub extern "C" fn bench_voltage(
+pub fn bench_voltage(
     x: u8,
     cell_count: u8,
     address: u8,
@@ -111,8 +108,7 @@ pub extern "C" fn bench_voltage(
     told::volts(answer, at, out)
 }
 
-#[unsafe(no_mangle)]
-pub extern "C" fn bench_temperature(
+pub fn bench_temperature(
     x: u8,
     cell_count: u8,
     address: u8,

@@ -39,8 +39,7 @@ mod told;
 mod wired;
 
 // For C: the number, 0 where accepted, and the 36 bytes in out.
-#[unsafe(no_mangle)]
-pub extern "C" fn bq769x0_init(job: &[u8], tape: &[u8], log: &mut [u8], out: &mut [u8; 36]) -> u8
+pub fn bq769x0_init(job: &[u8], tape: &[u8], log: &mut [u8], out: &mut [u8; 36]) -> u8
     ensures { handed result out.new log.new
         ≡ as_c (on_tape (job_init job.now) (lent_bus tape log start)) }
 {
@@ -67,8 +66,7 @@ pub fn init_cells(job: &[u8], tape: &[u8], log: &mut [u8], list: &mut [u8]) -> I
 }
 
 // For C: the number and the 36 bytes as after `bq769x0_init`, and the cells in list, which a refusal leaves as it was.
-#[unsafe(no_mangle)]
-pub extern "C" fn bq769x0_init_cells(
+pub fn bq769x0_init_cells(
     job: &[u8],
     tape: &[u8],
     log: &mut [u8],
@@ -108,8 +106,7 @@ pub fn init_wired(
 
 // For C: as `bq769x0_init_cells`, by the wiring, with each cell's input in inputs, and sum, lowest and highest in spread; a refusal leaves all
 // three buffers as they were.
-#[unsafe(no_mangle)]
-pub extern "C" fn bq769x0_init_wired(
+pub fn bq769x0_init_wired(
     job: &[u8],
     tape: &[u8],
     log: &mut [u8],
@@ -132,8 +129,7 @@ pub extern "C" fn bq769x0_init_wired(
 }
 
 // For C: a set of inputs balanced, for the device in field 20, on a board with this limit: the number, and the 36 bytes in out.
-#[unsafe(no_mangle)]
-pub extern "C" fn bq769x0_balance_set(
+pub fn bq769x0_balance_set(
     device: &[u8],
     set: u16,
     limit: u8,
@@ -154,13 +150,7 @@ pub extern "C" fn bq769x0_balance_set(
 }
 
 // For C: the set that the device has on, first of the five numbers in out.
-#[unsafe(no_mangle)]
-pub extern "C" fn bq769x0_balance_get(
-    device: &[u8],
-    tape: &[u8],
-    log: &mut [u8],
-    out: &mut [u8; 36],
-) -> u8
+pub fn bq769x0_balance_get(device: &[u8], tape: &[u8], log: &mut [u8], out: &mut [u8; 36]) -> u8
     ensures { handed result out.new log.new
         ≡ as_number (on_tape (job_balance_get device.now) (lent_bus tape log start)) }
 {
@@ -174,8 +164,7 @@ pub extern "C" fn bq769x0_balance_get(
 }
 
 // For C: the number, and the cell on an input of a pack, which a refusal leaves as it was.
-#[unsafe(no_mangle)]
-pub extern "C" fn bq769x0_cell_on(x: u8, cells: u8, input: u8, cell: &mut [u8; 1]) -> u8
+pub fn bq769x0_cell_on(x: u8, cells: u8, input: u8, cell: &mut [u8; 1]) -> u8
     ensures { found result cell.new ≡ found_for (cell_on x cells input) cell.old }
 {
     match questions::cell_on(x, cells, input) {
@@ -188,16 +177,14 @@ pub extern "C" fn bq769x0_cell_on(x: u8, cells: u8, input: u8, cell: &mut [u8; 1
 }
 
 // For C: the number, and the seconds that a UV delay's code stands for, which a refusal leaves as they were.
-#[unsafe(no_mangle)]
-pub extern "C" fn bq769x0_uv_seconds(code: u8, seconds: &mut [u8; 1]) -> u8
+pub fn bq769x0_uv_seconds(code: u8, seconds: &mut [u8; 1]) -> u8
     ensures { found result seconds.new ≡ found_for (seconds_for uv_times code) seconds.old }
 {
     store_seconds(seconds::uv_seconds(code), seconds)
 }
 
 // For C: the same of an OV delay's code.
-#[unsafe(no_mangle)]
-pub extern "C" fn bq769x0_ov_seconds(code: u8, seconds: &mut [u8; 1]) -> u8
+pub fn bq769x0_ov_seconds(code: u8, seconds: &mut [u8; 1]) -> u8
     ensures { found result seconds.new ≡ found_for (seconds_for ov_times code) seconds.old }
 {
     store_seconds(seconds::ov_seconds(code), seconds)
