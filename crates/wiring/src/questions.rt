@@ -25,6 +25,7 @@ pub enum CellAnswer {
     Refused(Error),
 }
 
+#[tactic(auto, unfolding(crate::specs::Questions::inputs_for))]
 pub fn inputs(x: u8, cells: u8) -> Fitted
     ensures { as_inputs result ≡ listed (inputs_for x cells) }
 {
@@ -49,6 +50,7 @@ fn refuse(e: Error) -> Fitted
     }
 }
 
+#[tactic(auto, unfolding(crate::specs::Questions::cell_on))]
 pub fn cell_on(x: u8, cells: u8, input: u8) -> CellAnswer
     ensures { as_cell_answer result ≡ cell_on x cells input }
 {

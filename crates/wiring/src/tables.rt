@@ -3,6 +3,7 @@ ghost use Rattle.std.specs.Prelude.{◌≡◌};
 ghost use Rattle.wiring.specs.Tables.{fitted};
 ghost use Rattle.wiring.specs.Questions.{fifteen};
 
+#[tactic(auto, unfolding(crate::specs::Tables::fitted))]
 pub fn fitted(x: u8, cells: u8) -> [u8; 15]
     ensures { result ≡ fifteen (fitted x cells) }
 {
@@ -18,6 +19,7 @@ pub fn fitted(x: u8, cells: u8) -> [u8; 15]
     [0u8; 15]
 }
 
+#[tactic(auto, unfolding(crate::specs::Tables::fitted))]
 fn bq76920(cells: u8) -> [u8; 15]
     ensures { result ≡ fifteen (fitted 5 cells) }
 {
@@ -29,6 +31,7 @@ fn bq76920(cells: u8) -> [u8; 15]
     }
 }
 
+#[tactic(auto, unfolding(crate::specs::Tables::fitted))]
 fn bq76930(cells: u8) -> [u8; 15]
     ensures { result ≡ fifteen (fitted 10 cells) }
 {
@@ -42,6 +45,7 @@ fn bq76930(cells: u8) -> [u8; 15]
     }
 }
 
+#[tactic(auto, unfolding(crate::specs::Tables::fitted))]
 fn bq76940(cells: u8) -> [u8; 15]
     ensures { result ≡ fifteen (fitted 15 cells) }
 {
