@@ -1,7 +1,7 @@
 -- What the steps of `taken` do: a pair or eight are tested, or their data taken, and what is left is what the contract says of the rest.
 -- Assumes nothing.
 use mathlib.Core.Path.{◌≡◌, refl, sym, ap, ap₂, ◌∙◌}
-use mathlib.Core.Bool.{Bool, true, false, ◌&&◌, and_true, and_assoc}
+use mathlib.Core.Bool.{Bool, true, false, ◌&&◌, and-true, and_assoc}
 use mathlib.Core.Logic.{◌⊎◌, inl, inr, ⊎_elim}
 use mathlib.Core.List.{List, [], ◌∷◌, ◌++◌}
 use Prim.Native.Nat.{ℕ, zero, suc, ◌+◌, ◌-◌, ◌*◌, ◌≤◌, ◌<◌}
@@ -95,7 +95,7 @@ module _ (l : List ℕ) (at : ℕ) (room : at + 16 ≤ length l) where
     -- no pair is left to test, and no byte to store
     pub tested_all : (wrong : ℕ) → (eqb wrong 0 && right [] (drop (2 * i) eight)) ≡ eqb wrong 0
     unfolding right
-    tested_all wrong = rw none_left (and_true (eqb wrong 0))
+    tested_all wrong = rw none_left (and-true (eqb wrong 0))
 
     pub carried_all : (out : List ℕ) (to : ℕ) → put out to (data_of (drop (2 * i) eight)) ≡ out
     unfolding data_of

@@ -1,7 +1,7 @@
 -- A frame with zeros after it: pairs of zero are right, and their data is zero.
 -- Assumes nothing.
 use mathlib.Core.Path.{◌≡◌, refl, sym, ap, ap₂, ◌∙◌}
-use mathlib.Core.Bool.{Bool, true, ◌&&◌, and_true}
+use mathlib.Core.Bool.{Bool, true, ◌&&◌, and-true}
 use mathlib.Core.List.{List, [], ◌∷◌, ◌++◌, append_assoc}
 use Prim.Native.Nat.{ℕ, zero, suc, ◌+◌, ◌-◌, ◌*◌, ◌/◌, ◌%◌, ◌≤◌}
 use native.Mathlib.Omega.{arith}
@@ -71,7 +71,7 @@ right_then before [] n some even = absurd (omega arith)
 right_then before (x ∷ []) n some even = absurd (omega arith)
 right_then before (x ∷ c ∷ rest) n some even =
     ap (λ (t : Bool). eqb c (check_byte (before ++ x ∷ [])) && t)
-    (right_append rest (zeros (2 * n)) (omega arith) ∙ rw (right_zeros n) (and_true (right [] rest)))
+    (right_append rest (zeros (2 * n)) (omega arith) ∙ rw (right_zeros n) (and-true (right [] rest)))
 
 -- ---- a frame of n pairs in the first places of k pairs of zero
 module _ (f p : List ℕ) (k n : ℕ) (is : p ≡ put (replicate (2 * k) 0) 0 f) (size : length f ≡ 2 * n) (few : n ≤ k) where

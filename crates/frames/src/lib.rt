@@ -42,6 +42,7 @@ fn put_alone(data: &[u8], out: &mut [u8])
 }
 
 // The frame of a write into out, and its length. Data of over eight bytes is refused: nothing is written, and the length is 0.
+#[tactic(auto, using(crate::proofs::Frames::written_none, crate::proofs::Put::put_none))]
 pub fn write_frame(check: bool, address: u8, reg: u8, data: &[u8], out: &mut [u8; 17]) -> usize
     ensures { (result ≡ length (written_frame check address reg «data».now))
         × (out.new ≡ put out.old 0 (written_frame check address reg «data».now)) }
