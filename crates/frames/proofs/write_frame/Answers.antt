@@ -1,4 +1,5 @@
--- Data of over eight bytes has no frame, as the lemmas that the function names say; else the register is stored, and then the data, with check bytes or alone.
+-- The register is stored, and then the data, with check bytes or alone. Data of over eight bytes has no frame: the lemmas that the
+-- function's attribute names say so.
 -- Assumes nothing.
 use Rattle.std.proofs.Common.{true, false, arith, rules}
 use Rattle.frames.specs.Frames.{framed}
