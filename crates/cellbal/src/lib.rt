@@ -27,6 +27,7 @@ impl Judged {
 }
 
 // Whether a device of x inputs may have the set, on a board with this limit: 22, 23, 24.
+#[tactic(auto, unfolding(crate::specs::Rules::allowed))]
 pub fn judge(x: u8, set: u16, limit: u8) -> Judged
     ensures { as_judged result ≡ allowed x set limit }
 {
@@ -43,6 +44,7 @@ pub fn judge(x: u8, set: u16, limit: u8) -> Judged
 }
 
 // Bits x and up name inputs over x.
+#[tactic(auto, using(crate::proofs::Shifted::all_named, crate::proofs::Shifted::by_shift))]
 fn not_on_device(x: u8, set: u16) -> bool
     ensures { result ≡ not_on_device x set }
 {
@@ -53,12 +55,14 @@ fn not_on_device(x: u8, set: u16) -> bool
 }
 
 // Each input beside the next, but the fifth of a block.
+#[tactic(auto, using(crate::proofs::Masked::by_mask))]
 fn neighbours(set: u16) -> bool
     ensures { result ≡ neighbours set }
 {
     set & (set >> 1) & 0b01111_01111_01111 != 0
 }
 
+#[tactic(auto, unfolding(crate::specs::Rules::too_many))]
 fn too_many(limit: u8, set: u16) -> bool
     ensures { result ≡ too_many limit set }
 {
@@ -84,6 +88,7 @@ pub fn registers(set: u16) -> [u8; 3]
 }
 
 // The set that three bytes show.
+#[tactic(auto, using(crate::proofs::RoundTrip::three_show))]
 pub fn set_of(bytes: [u8; 3]) -> u16
     ensures { result ≡ set_of bytes }
 {
