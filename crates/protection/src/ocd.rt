@@ -53,6 +53,7 @@ impl OCDThreshold {
         self.row().0
     }
 
+    #[tactic(auto, unfolding(crate::specs::Ranges::range_for))]
     pub fn range(self) -> OCDSCDRange
         ensures { result ≡ range_for ocd_lower ocd_upper (mv_of self) }
     {

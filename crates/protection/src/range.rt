@@ -5,7 +5,7 @@ ghost use Rattle.protection.specs.Ranges.{range_bits, has_lower, has_upper, for_
 
 use refusals::Error;
 
-#[derive(Drop)]
+#[derive(Clone, Copy)]
 pub enum OCDSCDRange {
     Lower,
     Upper,

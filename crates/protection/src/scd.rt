@@ -41,6 +41,7 @@ impl SCDThreshold {
         self.row().0
     }
 
+    #[tactic(auto, unfolding(crate::specs::Ranges::range_for))]
     pub fn range(self) -> OCDSCDRange
         ensures { result ≡ range_for scd_lower scd_upper (mv_of self) }
     {
