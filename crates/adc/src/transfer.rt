@@ -16,7 +16,7 @@ pub struct AdcTransferFunction {
 }
 
 // The least and the greatest voltage that a trip register can stand for.
-#[derive(Drop)]
+#[derive(Clone, Copy)]
 pub struct Limits {
     pub low: MilliVolts,
     pub high: MilliVolts,

@@ -2,7 +2,7 @@
 ghost use Rattle.std.specs.Prelude.{◌≡◌, ◌*◌, ◌<◌};
 ghost use Rattle.protection.specs.Delays.{scd_code, ocd_code, uv_code, ov_code, scd_bits, ocd_bits, uv_bits, ov_bits, uv_seconds, ov_seconds};
 
-#[derive(Drop)]
+#[derive(Clone, Copy)]
 pub enum SCDDelay {
     _70uS,
     _100uS,
@@ -10,7 +10,7 @@ pub enum SCDDelay {
     _400uS,
 }
 
-#[derive(Drop)]
+#[derive(Clone, Copy)]
 pub enum OCDDelay {
     _8ms,
     _20ms,
@@ -22,7 +22,7 @@ pub enum OCDDelay {
     _1280ms,
 }
 
-#[derive(Drop)]
+#[derive(Clone, Copy)]
 pub enum UVDelay {
     _1s,
     _4s,
@@ -30,7 +30,7 @@ pub enum UVDelay {
     _16s,
 }
 
-#[derive(Drop)]
+#[derive(Clone, Copy)]
 pub enum OVDelay {
     _1s,
     _2s,

@@ -11,7 +11,7 @@ use crate::{Across, Row};
 use refusals::Error;
 use units::{Amperes, MicroOhms};
 
-#[derive(Drop)]
+#[derive(Clone, Copy)]
 pub enum SCDThreshold {
     _22mV,
     _33mV,

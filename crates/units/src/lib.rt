@@ -3,23 +3,23 @@
 
 pub mod flags;
 
-#[derive(Drop)]
+#[derive(Clone, Copy)]
 pub struct Amperes(pub u32);
 
-#[derive(Drop)]
+#[derive(Clone, Copy)]
 pub struct MilliAmperes(pub i32);
 
-#[derive(Drop)]
+#[derive(Clone, Copy)]
 pub struct MicroOhms(pub u32);
 
-#[derive(Drop)]
+#[derive(Clone, Copy)]
 pub struct MilliVolts(pub i32);
 
-#[derive(Drop)]
+#[derive(Clone, Copy)]
 pub struct DegreesCentigrade(pub i32);
 
-#[derive(Drop)]
+#[derive(Clone, Copy)]
 pub struct Ohms(pub u32);
 
-#[derive(Drop)]
+#[derive(Clone, Copy)]
 pub struct TenthsOfDegree(pub i32);
