@@ -4,7 +4,7 @@
 pub mod link;
 
 // How far tape and log are used.
-#[derive(Drop)]
+#[derive(Clone, Copy)]
 pub struct Cursor {
     pub tape: usize,
     pub log: usize,

@@ -7,7 +7,7 @@ use crate::Cursor;
 use refusals::Error;
 
 // How a chip is spoken to: its bus address, whether with check bytes, and its count of inputs.
-#[derive(Drop)]
+#[derive(Clone, Copy)]
 pub struct Link {
     pub address: u8,
     pub check: bool,
