@@ -141,6 +141,7 @@ impl BQ769x0 {
         self.readings.spread
     }
 
+    #[tactic(auto, unfolding(crate::specs::Record::is_sound))]
     pub fn is_sound(self) -> bool
         ensures { result ≡ is_sound self }
     {
@@ -193,6 +194,7 @@ impl BQ769x0 {
 
 // What setting up makes and changes.
 impl Head {
+    #[tactic(auto, unfolding(crate::specs::Record::new_for))]
     pub fn new(x: u8, dev_address: u8, cell_count: u8, check: bool) -> NewHead
         ensures { leaves (as_made result.answer) (with_head result.head unread) ≡ new_for x dev_address cell_count check }
     {
@@ -228,6 +230,7 @@ impl Head {
 }
 
 // 9, 10, 11.
+#[tactic(auto, unfolding(crate::specs::Record::device_allowed))]
 fn device_answer(x: u8, dev_address: u8, cell_count: u8) -> NewAnswer
     ensures { as_made result ≡ device_allowed x dev_address cell_count }
 {
