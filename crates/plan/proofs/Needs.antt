@@ -6,7 +6,6 @@ use Prim.Native.Nat.{ℕ}
 use lib.Dec.{eqb}
 use lib.IntN.{ℤ}
 use Rattle.refusals.specs.Refusal.{Answer, value, refused, Refusal, refused_if}
-use Rattle.plan.specs.Order.{◌and_then◌}
 use Rattle.plan.specs.Plan.{Planned, plan_for}
 use Rattle.plan.specs.Steps.{bad_shunt, shunt_for}
 use Rattle.plan.specs.Trips.{ov_limits, uv_limits, obtainable, obtainable_or, trip_code_for, within_for}

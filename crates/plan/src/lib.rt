@@ -15,7 +15,7 @@ pub mod answer;
 pub mod currents;
 pub mod six_bytes;
 
-#[derive(Drop)]
+#[derive(Clone, Copy)]
 pub struct Config {
     pub shunt: MicroOhms,
     pub scd_delay: SCDDelay,
@@ -28,7 +28,7 @@ pub struct Config {
     pub ov_threshold: MilliVolts,
 }
 
-#[derive(Drop)]
+#[derive(Clone, Copy)]
 pub struct CalculatedValues {
     pub ocdscd_range_used: OCDSCDRange,
     pub scd_threshold: Amperes,
@@ -38,7 +38,7 @@ pub struct CalculatedValues {
 }
 
 // The two steps that a configuration is set up with.
-#[derive(Drop)]
+#[derive(Clone, Copy)]
 pub struct Steps {
     pub scd: SCDThreshold,
     pub ocd: OCDThreshold,
