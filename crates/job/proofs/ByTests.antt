@@ -2,22 +2,21 @@
 -- Assumes nothing.
 use mathlib.Core.Path.{◌≡◌, refl, sym, ap, subst, ◌∙◌}
 use mathlib.Core.Bool.{Bool, true, false, cond, ◌&&◌, and-eq-true_iff}
-use mathlib.Core.List.{List, [], ◌++◌}
+use mathlib.Core.List.{List, []}
 use Prim.Native.Nat.{ℕ, ◌+◌, ◌≤◌, ◌<◌}
 use native.Mathlib.Omega.{arith}
-use lib.ListN.{length, take, drop, get_or, length-drop}
-use lib.Seq.{drop-drop, get_or-drop, length-take-le}
+use lib.ListN.{length, take, drop, length-drop}
+use lib.Seq.{length-take-le}
 use lib.Dec.{eqb, leb, ltb}
 use borrow.Author.Tests.{le-leb, lt-leb, leb-true, leb-false, eq-eqb, eqb-true}
 use Rattle.fields.specs.Fields.{Field, unfield}
-use Rattle.fields.proofs.Fields.{field_of, said, at_head, cut_short, all_there}
+use Rattle.fields.proofs.Fields.{field_of, said, cut_short, all_there}
 use Rattle.refusals.specs.Refusal.{Answer, value, refused, no}
 use Rattle.plan.specs.Order.{◌and_then◌}
 use Rattle.job.specs.Jobs.{byte_at, device_at, is_device, config_at, codes_at, is_config, passing, field_for, device_for, job_of, device_of, config_of}
 use Rattle.job.specs.Inside.{says_field, says_device, says_job}
-use Rattle.job.specs.declared.Device.{Device}
 use Rattle.job.specs.declared.Job.{Job}
-use Rattle.job.proofs.Places.{from, from_drop, byte_of}
+use Rattle.job.proofs.Places.{from_drop, byte_of}
 
 -- ---- one of two, by tests
 and_false : (a : Bool) → a && false ≡ false

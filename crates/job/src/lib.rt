@@ -137,6 +137,7 @@ fn is_field(job: &[u8], at: usize, tag: u8, len: u16) -> bool
     (job[at] == tag) & (said == len)
 }
 
+#[tactic(auto, unfolding(crate::specs::Inside::says_device))]
 fn is_device(job: &[u8]) -> bool
     ensures { result ≡ says_device job.now }
 {
@@ -147,6 +148,7 @@ fn is_device(job: &[u8]) -> bool
 }
 
 // The codes of a configuration whose first byte is at `at` are in their lists.
+#[tactic(auto, unfolding(crate::specs::Jobs::codes_at))]
 fn has_codes(job: &[u8], at: usize) -> bool
     requires { at + 24 ≤ length job.now }
     ensures { result ≡ codes_at job.now at }
@@ -154,6 +156,7 @@ fn has_codes(job: &[u8], at: usize) -> bool
     (job[at + 20] < 4) & (job[at + 21] < 8) & (job[at + 22] < 4) & (job[at + 23] < 4)
 }
 
+#[tactic(auto, unfolding(crate::specs::Jobs::is_config))]
 pub fn is_config(value: &[u8]) -> bool
     ensures { result ≡ is_config value.now }
 {
@@ -163,6 +166,7 @@ pub fn is_config(value: &[u8]) -> bool
     has_codes(value, 0)
 }
 
+#[tactic(auto, unfolding(crate::specs::Inside::says_job))]
 fn is_job(job: &[u8]) -> bool
     ensures { result ≡ says_job job.now }
 {
