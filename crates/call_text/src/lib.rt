@@ -4,6 +4,7 @@
 use crate::making::Told;
 use crate::state::State;
 use calls::FieldAnswer;
+use std::io;
 
 mod making;
 pub mod refusing;
@@ -12,39 +13,59 @@ mod showing;
 pub mod state;
 
 // The calls on a record, a log and a cursor, and what they leave.
-pub fn print(input: &[u8], tape_at: usize, state: State, log: &mut [u8]) {
+pub fn print(
+    rt: &(impl Print + Eprint),
+    input: &[u8],
+    tape_at: usize,
+    state: State,
+    log: &mut [u8],
+) -> io::Result<()> {
     if input.len() < tape_at {
-        return;
+        return Ok(());
     }
-    let left = in_turn(input, &input[tape_at..], state, log);
-    left.print();
+    let left = in_turn(rt, input, &input[tape_at..], state, log)?;
+    left.print(rt)
 }
 
 // One record, one tape, one log.
-pub fn in_turn(input: &[u8], tape: &[u8], state: State, log: &mut [u8]) -> State {
+pub fn in_turn(
+    rt: &(impl Print + Eprint),
+    input: &[u8],
+    tape: &[u8],
+    state: State,
+    log: &mut [u8],
+) -> io::Result<State> {
     let mut state = state;
     let mut place = calls::CALLS_AT;
     let mut number = 0;
     while place < input.len() {
         let found = calls::field_at(input, place);
         let FieldAnswer::Found(field) = found else {
-            return state;
+            return Ok(state);
         };
         let tag = field.tag;
         let start = field.start;
         let len = field.len;
         if tag == calls::END {
-            return state;
+            return Ok(state);
         }
         let end = start + len;
         number += 1;
-        state = call(number, tag, &input[start..end], state, tape, log);
+        state = call(rt, number, tag, &input[start..end], state, tape, log)?;
         place = end;
     }
-    state
+    Ok(state)
 }
 
-fn call(number: usize, tag: u8, value: &[u8], state: State, tape: &[u8], log: &mut [u8]) -> State {
+fn call(
+    rt: &(impl Print + Eprint),
+    number: usize,
+    tag: u8,
+    value: &[u8],
+    state: State,
+    tape: &[u8],
+    log: &mut [u8],
+) -> io::Result<State> {
     let device = state.device;
     let at = state.at;
     let made = making::make(tag, value, device, tape, log, at);
@@ -54,12 +75,12 @@ fn call(number: usize, tag: u8, value: &[u8], state: State, tape: &[u8], log: &m
     let lent = made.lent;
     let prints = state.prints;
     if prints.answers() {
-        lines::transfers(log, at, next);
+        lines::transfers(rt, log, at, next)?;
         match told {
-            Told::Refused(e) => refusing::call(e, number, tag, value, state, tape, next),
-            _ => showing::show(told, lent, device.cell_count as usize),
+            Told::Refused(e) => refusing::call(rt, e, number, tag, value, state, tape, next)?,
+            _ => showing::show(rt, told, &lent, device.cell_count as usize)?,
         }
-        showing::show_lent(tag, value, lent, prints.lists());
+        showing::show_lent(rt, tag, value, &lent, prints.lists())?;
     }
-    state.after(device, next)
+    Ok(state.after(device, next))
 }

@@ -6,53 +6,58 @@ use calls::FieldAnswer;
 use job::DeviceAnswer;
 use lines::refused;
 use refusals::Error;
+use std::io;
 
 // A job whose head is none, by where its field 20 and its calls should begin.
-pub fn job(input: &[u8], device_at: usize, calls_at: usize) {
+pub fn job(
+    rt: &(impl Print + Eprint),
+    input: &[u8],
+    device_at: usize,
+    calls_at: usize,
+) -> io::Result<()> {
     if input.len() < device_at {
-        return;
+        return Ok(());
     }
     let parsed = job::parse_device(&input[device_at..]);
     match parsed {
-        DeviceAnswer::Wanted(_) => calls(input, calls_at),
-        DeviceAnswer::Refused(e) => refused::in_job(e, input, device_at, 0x20),
+        DeviceAnswer::Wanted(_) => calls(rt, input, calls_at),
+        DeviceAnswer::Refused(e) => refused::in_job(rt, e, input, device_at, 0x20),
     }
 }
 
 // The first field that is no call is at fault.
-pub fn calls(input: &[u8], calls_at: usize) {
+pub fn calls(rt: &(impl Print + Eprint), input: &[u8], calls_at: usize) -> io::Result<()> {
     let mut at = calls_at;
     while at < input.len() {
         let found = calls::field_at(input, at);
         let FieldAnswer::Found(field) = found else {
-            field_at(input, at);
-            return;
+            return field_at(rt, input, at);
         };
         let tag = field.tag;
         let start = field.start;
         let len = field.len;
         let end = start + len;
         if !calls::is_lawful(tag, &input[start..end]) {
-            field_at(input, at);
-            return;
+            return field_at(rt, input, at);
         }
         at = end;
     }
-    field_at(input, at);
+    field_at(rt, input, at)
 }
 
 // The field at a place, or field 3F where the job ends there.
-pub fn field_at(input: &[u8], at: usize) {
+pub fn field_at(rt: &(impl Print + Eprint), input: &[u8], at: usize) -> io::Result<()> {
     let tag = if at < input.len() {
         input[at]
     } else {
         calls::END
     };
-    refused::in_job(Error::BadTape, input, at, tag);
+    refused::in_job(rt, Error::BadTape, input, at, tag)
 }
 
 // A call on a state, which left the position `next`.
 pub(crate) fn call(
+    rt: &(impl Print + Eprint),
     e: Error,
     number: usize,
     tag: u8,
@@ -60,18 +65,27 @@ pub(crate) fn call(
     state: State,
     tape: &[u8],
     next: Cursor,
-) {
+) -> io::Result<()> {
     match e {
-        Error::BadTape | Error::TapeEnded => wants(e, number, tag, value, state, tape, next),
-        _ => refused::at_call(e, number),
+        Error::BadTape | Error::TapeEnded => wants(rt, e, number, tag, value, state, tape, next),
+        _ => refused::at_call(rt, e, number),
     }
 }
 
-fn wants(e: Error, number: usize, tag: u8, value: &[u8], state: State, tape: &[u8], next: Cursor) {
+fn wants(
+    rt: &(impl Print + Eprint),
+    e: Error,
+    number: usize,
+    tag: u8,
+    value: &[u8],
+    state: State,
+    tape: &[u8],
+    next: Cursor,
+) -> io::Result<()> {
     let at = state.at;
     let mut again = [0u8; 256];
     let mut log = [0u8; 256];
-    refused::wants(e, number, tape, at, next, &mut again);
+    refused::wants(rt, e, number, tape, at, next, &mut again)?;
     making::make(
         tag,
         value,
@@ -80,5 +94,5 @@ fn wants(e: Error, number: usize, tag: u8, value: &[u8], state: State, tape: &[u
         &mut log,
         Cursor { tape: 0, log: 0 },
     );
-    refused::wanted(&log, tape, at, next);
+    refused::wanted(rt, &log, tape, at, next)
 }

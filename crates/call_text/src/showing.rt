@@ -4,71 +4,80 @@ use crate::state;
 use bq769x0::Spread;
 use commands::control::TemperatureSource;
 use measuring::degrees::Temperature;
+use std::io;
 
 // Of the lists the first `count`. A refusal has its line elsewhere.
-pub(crate) fn show(told: Told, lent: Lent, count: usize) {
+pub(crate) fn show(rt: &impl Print, told: Told, lent: &Lent, count: usize) -> io::Result<()> {
     match told {
-        Told::NotMade | Told::Refused(_) => {}
-        Told::Done => text::words(b"done\n"),
-        Told::Init(values) => lines::init(values),
-        Told::Cells => cells(lent, count),
-        Told::Wired => wired(lent, count),
-        Told::Current(current) => lines::signed_number(b"current", current.0),
-        Told::Voltage(voltage) => lines::signed_number(b"voltage", voltage.0),
-        Told::Temperature(read) => degrees(read),
-        Told::Balancing(cells) => lines::number(b"balancing", cells as u64),
-        Told::Status(stat) => lines::number(b"status", stat.bits as u64),
-        Told::Charging(on) => lines::number(b"charging", if on { 1 } else { 0 }),
-        Told::Source(source) => source_line(source),
-        Told::CellOn(cell) => lines::number(b"cellon", cell as u64),
-        Told::BalanceGet(set) => lines::number(b"balanceget", set as u64),
-        Told::Spread(figures) => spread(figures),
+        Told::NotMade | Told::Refused(_) => Ok(()),
+        Told::Done => text::words(rt, "done\n"),
+        Told::Init(values) => lines::init(rt, values),
+        Told::Cells => cells(rt, lent, count),
+        Told::Wired => wired(rt, lent, count),
+        Told::Current(current) => lines::signed_number(rt, "current", current.0),
+        Told::Voltage(voltage) => lines::signed_number(rt, "voltage", voltage.0),
+        Told::Temperature(read) => degrees(rt, read),
+        Told::Balancing(cells) => lines::number(rt, "balancing", cells as u64),
+        Told::Status(stat) => lines::number(rt, "status", stat.bits as u64),
+        Told::Charging(on) => lines::number(rt, "charging", if on { 1 } else { 0 }),
+        Told::Source(source) => source_line(rt, source),
+        Told::CellOn(cell) => lines::number(rt, "cellon", cell as u64),
+        Told::BalanceGet(set) => lines::number(rt, "balanceget", set as u64),
+        Told::Spread(figures) => spread(rt, figures),
     }
 }
 
-fn cells(lent: Lent, count: usize) {
-    let list = lent.list;
-    lines::signed_numbers(b"cells", &list, count);
+fn cells(rt: &impl Print, lent: &Lent, count: usize) -> io::Result<()> {
+    lines::signed_numbers(rt, "cells", &lent.list, count)
 }
 
-fn wired(lent: Lent, count: usize) {
-    let inputs = lent.inputs;
-    let list = lent.list;
-    lines::pairs(b"wired", &inputs, &list, count);
+fn wired(rt: &impl Print, lent: &Lent, count: usize) -> io::Result<()> {
+    lines::pairs(rt, "wired", &lent.inputs, &lent.list, count)
 }
 
-fn spread(figures: Spread) {
-    text::words(b"spread");
-    state::figures(figures);
-    text::words(b"\n");
+fn spread(rt: &impl Print, figures: Spread) -> io::Result<()> {
+    text::words(rt, "spread")?;
+    state::figures(rt, figures)?;
+    text::words(rt, "\n")
 }
 
-fn degrees(read: Temperature) {
+fn degrees(rt: &impl Print, read: Temperature) -> io::Result<()> {
     match read {
-        Temperature::InternalDie(t) => lines::signed_number(b"temperature die", t.0),
-        Temperature::ExternalThermistor(t) => lines::signed_number(b"temperature thermistor", t.0),
+        Temperature::InternalDie(t) => lines::signed_number(rt, "temperature die", t.0),
+        Temperature::ExternalThermistor(t) => lines::signed_number(
+            rt,
+            "temperature thermistor",
+            t.0,
+        ),
     }
 }
 
-fn source_line(source: TemperatureSource) {
+fn source_line(rt: &impl Print, source: TemperatureSource) -> io::Result<()> {
     match source {
-        TemperatureSource::InternalDie => text::words(b"source die\n"),
-        TemperatureSource::ExternalThermistor => text::words(b"source thermistor\n"),
+        TemperatureSource::InternalDie => text::words(rt, "source die\n"),
+        TemperatureSource::ExternalThermistor => text::words(rt, "source thermistor\n"),
     }
 }
 
 // What was lent, after a refusal too: the data, and where asked the lists whole.
-pub(crate) fn show_lent(tag: u8, value: &[u8], lent: Lent, lists: bool) {
+pub(crate) fn show_lent(
+    rt: &impl Print,
+    tag: u8,
+    value: &[u8],
+    lent: &Lent,
+    lists: bool,
+) -> io::Result<()> {
     if tag == 0x32 {
-        data(lent, value);
+        data(rt, lent, value)?;
     }
     if lists & (tag == 0x22) {
-        list(lent, value, 0);
+        list(rt, lent, value, 0)?;
     }
     if lists & (tag == 0x34) {
-        inputs(lent, value);
-        list(lent, value, 1);
+        inputs(rt, lent, value)?;
+        list(rt, lent, value, 1)?;
     }
+    Ok(())
 }
 
 // As many as byte i of a value says.
@@ -79,19 +88,18 @@ fn room(value: &[u8], i: usize) -> usize {
     size(value[i])
 }
 
-fn list(lent: Lent, value: &[u8], i: usize) {
-    let list = lent.list;
-    lines::signed_numbers(b"list", &list, room(value, i));
+fn list(rt: &impl Print, lent: &Lent, value: &[u8], i: usize) -> io::Result<()> {
+    lines::signed_numbers(rt, "list", &lent.list, room(value, i))
 }
 
-fn inputs(lent: Lent, value: &[u8]) {
-    let inputs = lent.inputs;
-    lines::small_numbers(b"inputs", &inputs, room(value, 0));
+fn inputs(rt: &impl Print, lent: &Lent, value: &[u8]) -> io::Result<()> {
+    lines::small_numbers(rt, "inputs", &lent.inputs, room(value, 0))
 }
 
-fn data(lent: Lent, value: &[u8]) {
-    let data = lent.data;
+fn data(rt: &impl Print, lent: &Lent, value: &[u8]) -> io::Result<()> {
     if value.len() == 3 {
-        lines::bytes(b"data", &data, numbers::be_u16(value[1], value[2]) as usize);
+        let count = numbers::be_u16(value[1], value[2]);
+        lines::bytes(rt, "data", &lent.data, count as usize)?;
     }
+    Ok(())
 }

@@ -3,10 +3,11 @@ ghost use Rattle.std.specs.Prelude.{◌≡◌};
 
 use bq769x0::{BQ769x0, Spread};
 use bus::Cursor;
+use std::io;
 use units::MilliVolts;
 
 // What is printed of each call.
-#[derive(Drop)]
+#[derive(Clone, Copy)]
 pub enum Prints {
     Nothing,
     Answers,
@@ -31,7 +32,7 @@ impl Prints {
     }
 }
 
-#[derive(Drop)]
+#[derive(Clone, Copy)]
 pub struct State {
     pub device: BQ769x0,
     pub at: Cursor,
@@ -46,20 +47,18 @@ fn wide(z: i8) -> i32 {
     z as i32
 }
 
-fn cells(cells: [MilliVolts; 15]) {
-    let mut i = 0;
-    while i < 15 {
-        let cell = cells[i];
-        text::signed_number(cell.0);
-        i += 1;
+fn cells(rt: &impl Print, cells: [MilliVolts; 15]) -> io::Result<()> {
+    for cell in cells {
+        text::signed_number(rt, cell.0)?;
     }
+    Ok(())
 }
 
 // Sum, lowest, highest.
-pub(crate) fn figures(spread: Spread) {
-    text::signed_number(spread.sum.0);
-    text::signed_number(spread.lowest.0);
-    text::signed_number(spread.highest.0);
+pub(crate) fn figures(rt: &impl Print, spread: Spread) -> io::Result<()> {
+    text::signed_number(rt, spread.sum.0)?;
+    text::signed_number(rt, spread.lowest.0)?;
+    text::signed_number(rt, spread.highest.0)
 }
 
 impl State {
@@ -70,28 +69,28 @@ impl State {
         State { device, at, prints }
     }
 
-    pub fn print(self) {
+    pub fn print(self, rt: &impl Print) -> io::Result<()> {
         let device = self.device;
         let at = self.at;
         let link = device.link;
-        text::words(b"record");
-        text::number(link.x as u64);
-        text::number(device.cell_count as u64);
-        text::number(link.address as u64);
-        text::number(bit(link.check));
-        text::number(device.adc_gain() as u64);
-        text::signed_number(wide(device.adc_offset()));
-        text::number(bit(device.is_initialized()));
-        text::number(device.shunt.0 as u64);
+        text::words(rt, "record")?;
+        text::number(rt, link.x as u64)?;
+        text::number(rt, device.cell_count as u64)?;
+        text::number(rt, link.address as u64)?;
+        text::number(rt, bit(link.check))?;
+        text::number(rt, device.adc_gain() as u64)?;
+        text::signed_number(rt, wide(device.adc_offset()))?;
+        text::number(rt, bit(device.is_initialized()))?;
+        text::number(rt, device.shunt.0 as u64)?;
         let held = device.readings.cells;
         let wired = device.readings.wired;
-        cells(held);
-        cells(wired);
-        figures(device.spread());
-        text::words(b" tape");
-        text::number(at.tape as u64);
-        text::words(b" log");
-        text::number(at.log as u64);
-        text::words(b"\n");
+        cells(rt, held)?;
+        cells(rt, wired)?;
+        figures(rt, device.spread())?;
+        text::words(rt, " tape")?;
+        text::number(rt, at.tape as u64)?;
+        text::words(rt, " log")?;
+        text::number(rt, at.log as u64)?;
+        text::words(rt, "\n")
     }
 }

@@ -7,35 +7,41 @@ use bus::Cursor;
 use call_text::refusing;
 use call_text::state::{Prints, State};
 use calls::{HeadAnswer, Heading};
+use std::io;
 
-fn main() {
+fn main(rt: HostRuntime) -> io::Result<()> {
     let mut input = [0u8; 32768];
-    let n = io::read_full(0, &mut input);
-    print(&input[..n]);
+    let n = text::read_full(&mut rt.stdin(), &mut input)?;
+    print(&rt, &input[..n])
 }
 
 // 15, then 9, 10, 11, then the calls.
-fn print(input: &[u8]) {
+fn print(rt: &(impl Print + Eprint), input: &[u8]) -> io::Result<()> {
     let head = calls::head(input);
     match head {
-        HeadAnswer::Wanted(heading) => make(input, heading),
-        HeadAnswer::Refused(_) => refusing::job(input, 0, calls::CALLS_AT),
+        HeadAnswer::Wanted(heading) => make(rt, input, heading),
+        HeadAnswer::Refused(_) => refusing::job(rt, input, 0, calls::CALLS_AT),
     }
 }
 
-fn make(input: &[u8], heading: Heading) {
+fn make(rt: &(impl Print + Eprint), input: &[u8], heading: Heading) -> io::Result<()> {
     let asked = heading.device;
     let tape_at = heading.tape_at;
     let made = BQ769x0::new(asked.x, asked.address, asked.cells, asked.check);
     let answer = made.answer;
     let device = made.device;
     match answer {
-        NewAnswer::Made => run(input, tape_at, device),
-        NewAnswer::Refused(e) => lines::refused::in_job(e, input, 0, 0x20),
+        NewAnswer::Made => run(rt, input, tape_at, device),
+        NewAnswer::Refused(e) => lines::refused::in_job(rt, e, input, 0, 0x20),
     }
 }
 
-fn run(input: &[u8], tape_at: usize, device: BQ769x0) {
+fn run(
+    rt: &(impl Print + Eprint),
+    input: &[u8],
+    tape_at: usize,
+    device: BQ769x0,
+) -> io::Result<()> {
     let at = Cursor { tape: 0, log: 0 };
     let state = State {
         device,
@@ -43,5 +49,5 @@ fn run(input: &[u8], tape_at: usize, device: BQ769x0) {
         prints: Prints::Answers,
     };
     let mut log = [0u8; 65536];
-    call_text::print(input, tape_at, state, &mut log);
+    call_text::print(rt, input, tape_at, state, &mut log)
 }

@@ -3,6 +3,7 @@
 use call_text::state::State;
 use chip::Chip;
 use chip::answer::Cut;
+use std::io;
 
 // The least field of a tape has three bytes.
 pub(crate) const MOST: usize = 10_922;
@@ -24,21 +25,29 @@ impl Bench {
     }
 
     // One more transfer is answered, where one is wanted.
-    fn pass(self, job: &[u8], state: State, cut: Cut, tape: &mut [u8], log: &mut [u8]) -> Bench {
+    fn pass(
+        self,
+        rt: &(impl Print + Eprint),
+        job: &[u8],
+        state: State,
+        cut: Cut,
+        tape: &mut [u8],
+        log: &mut [u8],
+    ) -> io::Result<Bench> {
         let end = self.tape_end;
         if self.is_done {
-            return self;
+            return Ok(self);
         }
         if tape.len() <= end {
-            return self.done();
+            return Ok(self.done());
         }
         tape[end] = 0x02;
-        let left = call_text::in_turn(job, tape, state, log);
+        let left = call_text::in_turn(rt, job, tape, state, log)?;
         let at = left.at;
         if at.tape <= end {
-            return self.done();
+            return Ok(self.done());
         }
-        self.answered(log, at.log, cut, tape, job.len())
+        Ok(self.answered(log, at.log, cut, tape, job.len()))
     }
 
     // The field that was added to the log is answered, where job and tape then are no longer than callrun's input.
@@ -89,13 +98,14 @@ fn cut_of(cuts: &[usize], transfer: usize) -> Cut {
 
 // The chip's answers to the calls of a job, on a tape of 00; how far they fill it.
 pub(crate) fn run(
+    rt: &(impl Print + Eprint),
     job: &[u8],
     state: State,
     chip: Chip,
     cuts: &[usize],
     tape: &mut [u8],
     log: &mut [u8],
-) -> usize {
+) -> io::Result<usize> {
     let mut bench = Bench {
         chip,
         tape_end: 0,
@@ -103,7 +113,7 @@ pub(crate) fn run(
         is_done: false,
     };
     for k in 0..MOST {
-        bench = bench.pass(job, state, cut_of(cuts, k), tape, log);
+        bench = bench.pass(rt, job, state, cut_of(cuts, k), tape, log)?;
     }
-    bench.tape_end
+    Ok(bench.tape_end)
 }

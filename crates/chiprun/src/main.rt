@@ -10,6 +10,7 @@ use call_text::state::{Prints, State};
 use calls::HeadAnswer;
 use chip::Chip;
 use job::{Device, DeviceAnswer};
+use std::io;
 
 mod bench;
 mod front;
@@ -17,69 +18,79 @@ mod front;
 // As many bytes of job and tape as callrun reads.
 const SIZE: usize = 32768;
 
-fn main() {
+fn main(rt: HostRuntime) -> io::Result<()> {
     let mut input = [0u8; SIZE];
-    let n = io::read_full(0, &mut input);
-    print(&mut input[..n]);
+    let n = text::read_full(&mut rt.stdin(), &mut input)?;
+    print(&rt, &mut input[..n])
 }
 
 // 15, then 9, 10, 11, then the calls.
-fn print(input: &mut [u8]) {
+fn print(rt: &(impl Print + Eprint), input: &mut [u8]) -> io::Result<()> {
     let parsed = job::parse_device(input);
     match parsed {
-        DeviceAnswer::Wanted(device) => with_device(input, device),
-        DeviceAnswer::Refused(e) => lines::refused::in_job(e, input, 0, 0x20),
+        DeviceAnswer::Wanted(device) => with_device(rt, input, device),
+        DeviceAnswer::Refused(e) => lines::refused::in_job(rt, e, input, 0, 0x20),
     }
 }
 
-fn with_device(input: &mut [u8], device: Device) {
+fn with_device(rt: &(impl Print + Eprint), input: &mut [u8], device: Device) -> io::Result<()> {
     let mut cuts = [0usize; bench::MOST];
     let front = front::read(input, Chip::make(device.address, device.check), &mut cuts);
     let chip = front.chip;
     let calls_at = front.calls_at;
     if !front.fits {
-        refusing::field_at(input, calls_at);
-        return;
+        return refusing::field_at(rt, input, calls_at);
     }
     if calls_at < calls::CALLS_AT {
-        return;
+        return Ok(());
     }
     // Right ahead of the calls: from there on the input is a job of callrun's.
     front::put_device(device, input, calls_at - calls::CALLS_AT);
-    with_calls(input, calls_at, chip, &cuts);
+    with_calls(rt, input, calls_at, chip, &cuts)
 }
 
 // Field 20 and the calls, and nothing behind them.
-fn with_calls(input: &[u8], calls_at: usize, chip: Chip, cuts: &[usize]) {
+fn with_calls(
+    rt: &(impl Print + Eprint),
+    input: &[u8],
+    calls_at: usize,
+    chip: Chip,
+    cuts: &[usize],
+) -> io::Result<()> {
     if calls_at < calls::CALLS_AT {
-        return;
+        return Ok(());
     }
     if input.len() < calls_at {
-        return;
+        return Ok(());
     }
     let job_at = calls_at - calls::CALLS_AT;
     let job = &input[job_at..];
     let head = calls::head(job);
     let HeadAnswer::Wanted(heading) = head else {
-        refusing::calls(input, calls_at);
-        return;
+        return refusing::calls(rt, input, calls_at);
     };
     let device = heading.device;
-    let end = std::num::wrapping_add_usize(job_at, heading.tape_at);
+    let end = job_at.wrapping_add(heading.tape_at);
     if end != input.len() {
-        refusing::field_at(input, end);
-        return;
+        return refusing::field_at(rt, input, end);
     }
-    make(input, job, device, chip, cuts);
+    make(rt, input, job, device, chip, cuts)
 }
 
-fn make(input: &[u8], job: &[u8], asked: Device, chip: Chip, cuts: &[usize]) {
+fn make(
+    rt: &(impl Print + Eprint),
+    input: &[u8],
+    job: &[u8],
+    asked: Device,
+    chip: Chip,
+    cuts: &[usize],
+) -> io::Result<()> {
     let made = BQ769x0::new(asked.x, asked.address, asked.cells, asked.check);
     let answer = made.answer;
     let device = made.device;
     match answer {
-        NewAnswer::Made => run(job, device, chip, cuts),
-        NewAnswer::Refused(e) => lines::refused::in_job(e, input, 0, 0x20),
+        NewAnswer::Made => run(rt, job, device, chip, cuts),
+        NewAnswer::Refused(e) => lines::refused::in_job(rt, e, input, 0, 0x20),
     }
 }
 
@@ -88,15 +99,22 @@ fn fresh(device: BQ769x0, prints: Prints) -> State {
     State { device, at, prints }
 }
 
-fn run(job: &[u8], device: BQ769x0, chip: Chip, cuts: &[usize]) {
+fn run(
+    rt: &(impl Print + Eprint),
+    job: &[u8],
+    device: BQ769x0,
+    chip: Chip,
+    cuts: &[usize],
+) -> io::Result<()> {
     let mut tape = [0u8; SIZE];
     let mut log = [0u8; 65536];
     let state = fresh(device, Prints::Nothing);
-    let end = bench::run(job, state, chip, cuts, &mut tape, &mut log);
+    let end = bench::run(rt, job, state, chip, cuts, &mut tape, &mut log)?;
     if SIZE < end {
-        return;
+        return Ok(());
     }
-    let left = call_text::in_turn(job, &tape[..end], fresh(device, Prints::Answers), &mut log);
-    left.print();
-    lines::bytes(b"tape", &tape, end);
+    let state = fresh(device, Prints::Answers);
+    let left = call_text::in_turn(rt, job, &tape[..end], state, &mut log)?;
+    left.print(rt)?;
+    lines::bytes(rt, "tape", &tape, end)
 }

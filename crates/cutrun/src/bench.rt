@@ -83,7 +83,7 @@ impl Outcome {
         if place.bytes < bench.sizes[k] {
             return Place {
                 transfer: k,
-                bytes: std::num::wrapping_add_usize(place.bytes, 1),
+                bytes: place.bytes.wrapping_add(1),
             };
         }
         Place {
@@ -169,7 +169,7 @@ pub(crate) fn run(start: Start, place: Place) -> Outcome {
     let device = start.device;
     let call = start.call;
     let mut bench = Bench::new(start.chip);
-    for k in 0..MOST {
+    for _ in 0..MOST {
         bench = bench.step(device, call, place);
     }
     let tape = bench.tape;

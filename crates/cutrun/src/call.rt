@@ -5,6 +5,7 @@ use bus::link::RawAnswer;
 use commands::balancing;
 use plan::answer::InitNumbers;
 use plan::{Config, InitAnswer};
+use std::io;
 
 #[derive(Drop)]
 pub(crate) enum Call {
@@ -74,10 +75,10 @@ impl Call {
     }
 
     // Another one of its kind, in words.
-    pub(crate) fn another(self) {
+    pub(crate) fn another(self, rt: &impl Print) -> io::Result<()> {
         match self {
-            Call::Init(config) => text::words(b" of another configuration"),
-            Call::Set(inputs, limit) => text::words(b" of another set"),
+            Call::Init(_) => text::words(rt, " of another configuration"),
+            Call::Set(_, _) => text::words(rt, " of another set"),
         }
     }
 }

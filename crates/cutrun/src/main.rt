@@ -4,6 +4,7 @@
 #![tactic(auto)]
 
 use bq769x0::BQ769x0;
+use std::io;
 
 mod bench;
 mod call;
@@ -13,50 +14,55 @@ mod report;
 mod tally;
 mod twice;
 
-fn accepted(check: bool) {
-    report::all(b"BQ76920", cases::all_zero(check), cases::as_upper());
-    report::all(b"BQ76930", cases::not_zero(check), cases::as_example());
-    report::all(b"BQ76940 again", cases::again(check), cases::as_example());
+fn accepted(rt: &impl Print, check: bool) -> io::Result<()> {
+    report::all(rt, "BQ76920", cases::all_zero(check), cases::as_upper())?;
+    report::all(rt, "BQ76930", cases::not_zero(check), cases::as_example())?;
+    report::all(
+        rt,
+        "BQ76940 again",
+        cases::again(check),
+        cases::as_example(),
+    )
 }
 
-fn refused(check: bool) {
+fn refused(rt: &impl Print, check: bool) -> io::Result<()> {
     let upper = cases::as_upper();
-    report::all(b"BQ76940 refused", cases::no_range(check), upper);
-    report::all(b"BQ76940 refused", cases::undervoltage(check), upper);
-    report::all(b"BQ76940 refused", cases::overvoltage(check), upper);
-    report::all(b"BQ76940 refused", cases::no_shunt(check), upper);
-    report::all(b"BQ76940 refused", cases::overcurrent(check), upper);
+    report::all(rt, "BQ76940 refused", cases::no_range(check), upper)?;
+    report::all(rt, "BQ76940 refused", cases::undervoltage(check), upper)?;
+    report::all(rt, "BQ76940 refused", cases::overvoltage(check), upper)?;
+    report::all(rt, "BQ76940 refused", cases::no_shunt(check), upper)?;
+    report::all(rt, "BQ76940 refused", cases::overcurrent(check), upper)
 }
 
-fn inits() {
-    accepted(false);
-    accepted(true);
-    refused(false);
-    refused(true);
-    twice::all(b"BQ76920", cases::all_zero(false));
-    twice::all(b"BQ76920", cases::all_zero(true));
-    report::shown(b"BQ76920", cases::all_zero(false));
-    report::shown(b"BQ76920", cases::all_zero(true));
+fn inits(rt: &impl Print) -> io::Result<()> {
+    accepted(rt, false)?;
+    accepted(rt, true)?;
+    refused(rt, false)?;
+    refused(rt, true)?;
+    twice::all(rt, "BQ76920", cases::all_zero(false))?;
+    twice::all(rt, "BQ76920", cases::all_zero(true))?;
+    report::shown(rt, "BQ76920", cases::all_zero(false))?;
+    report::shown(rt, "BQ76920", cases::all_zero(true))
 }
 
-fn set_on(name: &[u8], x: u8, check: bool) {
-    report::all(name, cases::set(x, check), cases::second());
-    twice::all(name, cases::set(x, check));
+fn set_on(rt: &impl Print, name: &str, x: u8, check: bool) -> io::Result<()> {
+    report::all(rt, name, cases::set(x, check), cases::second())?;
+    twice::all(rt, name, cases::set(x, check))
 }
 
-fn sets(check: bool) {
+fn sets(rt: &impl Print, check: bool) -> io::Result<()> {
     let second = cases::second();
-    set_on(b"a set on a BQ76920", BQ769x0::BQ76920, check);
-    set_on(b"a set on a BQ76930", BQ769x0::BQ76930, check);
-    set_on(b"a set on a BQ76940", BQ769x0::BQ76940, check);
-    report::all(b"a set refused", cases::not_on_device(check), second);
-    report::all(b"a set refused", cases::neighbours(check), second);
-    report::all(b"a set refused", cases::too_many(check), second);
-    report::shown(b"input 1 for 6", cases::six_then_one(check));
+    set_on(rt, "a set on a BQ76920", BQ769x0::BQ76920, check)?;
+    set_on(rt, "a set on a BQ76930", BQ769x0::BQ76930, check)?;
+    set_on(rt, "a set on a BQ76940", BQ769x0::BQ76940, check)?;
+    report::all(rt, "a set refused", cases::not_on_device(check), second)?;
+    report::all(rt, "a set refused", cases::neighbours(check), second)?;
+    report::all(rt, "a set refused", cases::too_many(check), second)?;
+    report::shown(rt, "input 1 for 6", cases::six_then_one(check))
 }
 
-fn main() {
-    inits();
-    sets(false);
-    sets(true);
+fn main(rt: HostRuntime) -> io::Result<()> {
+    inits(&rt)?;
+    sets(&rt, false)?;
+    sets(&rt, true)
 }

@@ -6,6 +6,7 @@ use crate::tally::Tally;
 use crate::{bench, cases, compare};
 use bq769x0::BQ769x0;
 use chip::Chip;
+use std::io;
 
 // The call after a cut: with the record that the cut left or with a new one.
 #[derive(Drop)]
@@ -29,97 +30,100 @@ impl After {
 }
 
 // A register whose byte is not as it was, and whether it is such.
-fn register(r: u8, before: u8, byte: u8) -> bool {
+fn register(rt: &impl Print, r: u8, before: u8, byte: u8) -> io::Result<bool> {
     if byte == before {
-        return false;
+        return Ok(false);
     }
-    text::words(b",");
-    text::hex(r);
-    text::words(b" is");
-    text::hex(byte);
-    true
+    text::words(rt, ",")?;
+    text::hex(rt, r)?;
+    text::words(rt, " is")?;
+    text::hex(rt, byte)?;
+    Ok(true)
 }
 
-fn registers(before: Chip, chip: Chip) {
+fn registers(rt: &impl Print, before: Chip, chip: Chip) -> io::Result<()> {
     let mut any = false;
     for r in 0..=255 {
         let i = r as usize;
-        any = register(r, before.regs[i], chip.regs[i]) | any;
+        any = register(rt, r, before.regs[i], chip.regs[i])? | any;
     }
     if !any {
-        text::words(b", no register new");
+        text::words(rt, ", no register new")?;
     }
+    Ok(())
 }
 
-fn record(device: BQ769x0) {
-    text::words(b", mark");
-    text::number(device.init_complete as u64);
-    text::words(b" shunt");
-    text::number(device.shunt.0 as u64);
+fn record(rt: &impl Print, device: BQ769x0) -> io::Result<()> {
+    text::words(rt, ", mark")?;
+    text::number(rt, device.init_complete as u64)?;
+    text::words(rt, " shunt")?;
+    text::number(rt, device.shunt.0 as u64)
 }
 
-fn answer(run: Outcome) {
+fn answer(rt: &impl Print, run: Outcome) -> io::Result<()> {
     let left = run.left;
-    text::words(b" answer");
-    text::number(left.number as u64);
+    text::words(rt, " answer")?;
+    text::number(rt, left.number as u64)
 }
 
 // What a run from a start answers and leaves.
-fn left(start: Start, run: Outcome) {
+fn left(rt: &impl Print, start: Start, run: Outcome) -> io::Result<()> {
     let device = run.left.device;
     let before = start.chip;
     let chip = run.bench.chip;
-    text::words(b":");
-    answer(run);
-    record(device);
-    registers(before, chip);
+    text::words(rt, ":")?;
+    answer(rt, run)?;
+    record(rt, device)?;
+    registers(rt, before, chip)
 }
 
 // A start's name, and the build.
-pub(crate) fn title(name: &[u8], start: Start) {
+pub(crate) fn title(rt: &impl Print, name: &str, start: Start) -> io::Result<()> {
     let link = start.device.link;
-    text::words(name);
+    text::words(rt, name)?;
     if link.check {
-        text::words(b" with checks");
+        text::words(rt, " with checks")?;
     }
+    Ok(())
 }
 
-pub(crate) fn cut_at(place: Place) {
-    text::words(b", transfer");
-    text::number(place.transfer as u64);
-    text::words(b" cut after");
-    text::number(place.bytes as u64);
+pub(crate) fn cut_at(rt: &impl Print, place: Place) -> io::Result<()> {
+    text::words(rt, ", transfer")?;
+    text::number(rt, place.transfer as u64)?;
+    text::words(rt, " cut after")?;
+    text::number(rt, place.bytes as u64)
 }
 
 // What a cut leaves.
-fn line(name: &[u8], start: Start, place: Place) {
+fn line(rt: &impl Print, name: &str, start: Start, place: Place) -> io::Result<()> {
     let cut = bench::run(start, place);
-    title(name, start);
-    cut_at(place);
-    left(start, cut);
-    text::words(b"\n");
+    title(rt, name, start)?;
+    cut_at(rt, place)?;
+    left(rt, start, cut)?;
+    text::words(rt, "\n")
 }
 
 // Whether the call after a cut ends as this one; a line where it does not.
 fn same(
-    name: &[u8],
-    what: &[u8],
+    rt: &impl Print,
+    name: &str,
+    what: &str,
     start: Start,
     after: After,
     whole: Outcome,
     place: Place,
-) -> bool {
+) -> io::Result<bool> {
     let cut = bench::run(start, place);
     let chip = cut.bench.chip;
     let device = cut.left.device;
     let then = bench::run(after.on(chip, device), Place::none());
     if compare::same(then, whole) {
-        return true;
+        return Ok(true);
     }
-    text::words(what);
-    text::words(b" DIFFERS after ");
-    line(name, start, place);
-    false
+    text::words(rt, what)?;
+    text::words(rt, " DIFFERS after ")?;
+    line(rt, name, start, place)?;
+    Ok(false)
 }
 
 // That call with nothing cut before it.
@@ -129,35 +133,41 @@ fn uncut(start: Start, after: After) -> Outcome {
     bench::run(after.on(chip, device), Place::none())
 }
 
-fn each(name: &[u8], what: &[u8], start: Start, after: After) -> Tally {
+fn each(rt: &impl Print, name: &str, what: &str, start: Start, after: After) -> io::Result<Tally> {
     let first = bench::run(start, Place::none());
     let whole = uncut(start, after);
     let mut tally = Tally::none();
     let mut place = Place::first();
-    for n in 0..bench::PLACES {
+    for _ in 0..bench::PLACES {
         if first.has(place) {
-            tally = tally.counted(same(name, what, start, after, whole, place));
+            tally = tally.counted(same(rt, name, what, start, after, whole, place)?);
             place = first.next(place);
         }
     }
-    tally
+    Ok(tally)
 }
 
-fn counted(kept: Tally, lost: Tally, otherwise: Tally, call: Call) {
-    text::words(b"; cut at");
-    text::number(kept.tried);
-    text::words(b" places, then as if never cut:");
-    text::number(kept.same);
-    text::words(b" again,");
-    text::number(lost.same);
-    text::words(b" with a new record,");
-    text::number(otherwise.same);
-    call.another();
-    text::words(b",");
+fn counted(
+    rt: &impl Print,
+    kept: Tally,
+    lost: Tally,
+    otherwise: Tally,
+    call: Call,
+) -> io::Result<()> {
+    text::words(rt, "; cut at")?;
+    text::number(rt, kept.tried)?;
+    text::words(rt, " places, then as if never cut:")?;
+    text::number(rt, kept.same)?;
+    text::words(rt, " again,")?;
+    text::number(rt, lost.same)?;
+    text::words(rt, " with a new record,")?;
+    text::number(rt, otherwise.same)?;
+    call.another(rt)?;
+    text::words(rt, ",")
 }
 
 // A start's line.
-pub(crate) fn all(name: &[u8], start: Start, other: Call) {
+pub(crate) fn all(rt: &impl Print, name: &str, start: Start, other: Call) -> io::Result<()> {
     let call = start.call;
     let again = After { anew: false, call };
     let anew = After { anew: true, call };
@@ -165,24 +175,25 @@ pub(crate) fn all(name: &[u8], start: Start, other: Call) {
         anew: false,
         call: other,
     };
-    let kept = each(name, b"again", start, again);
-    let lost = each(name, b"with a new record", start, anew);
-    let last = each(name, b"otherwise", start, otherwise);
-    title(name, start);
-    left(start, bench::run(start, Place::none()));
-    counted(kept, lost, last, call);
-    answer(uncut(start, otherwise));
-    text::words(b"\n");
+    let kept = each(rt, name, "again", start, again)?;
+    let lost = each(rt, name, "with a new record", start, anew)?;
+    let last = each(rt, name, "otherwise", start, otherwise)?;
+    title(rt, name, start)?;
+    left(rt, start, bench::run(start, Place::none()))?;
+    counted(rt, kept, lost, last, call)?;
+    answer(rt, uncut(start, otherwise))?;
+    text::words(rt, "\n")
 }
 
 // A line for each place.
-pub(crate) fn shown(name: &[u8], start: Start) {
+pub(crate) fn shown(rt: &impl Print, name: &str, start: Start) -> io::Result<()> {
     let first = bench::run(start, Place::none());
     let mut place = Place::first();
-    for n in 0..bench::PLACES {
+    for _ in 0..bench::PLACES {
         if first.has(place) {
-            line(name, start, place);
+            line(rt, name, start, place)?;
             place = first.next(place);
         }
     }
+    Ok(())
 }

@@ -13,8 +13,8 @@ impl Tally {
 
     pub(crate) fn counted(self, same: bool) -> Tally {
         Tally {
-            tried: std::num::wrapping_add_u64(self.tried, 1),
-            same: std::num::wrapping_add_u64(self.same, same as u64),
+            tried: self.tried.wrapping_add(1),
+            same: self.same.wrapping_add(same as u64),
         }
     }
 }

@@ -3,6 +3,7 @@ use crate::bench::{Outcome, Place, Start};
 use crate::call::Call;
 use crate::tally::Tally;
 use crate::{bench, compare, report};
+use std::io;
 
 // On what a run left.
 fn after(run: Outcome, call: Call) -> Start {
@@ -12,53 +13,65 @@ fn after(run: Outcome, call: Call) -> Start {
 }
 
 // A line where it ended otherwise.
-fn pair(first: Place, second: Place, start: Start, whole: Outcome) -> bool {
+fn pair(
+    rt: &impl Print,
+    first: Place,
+    second: Place,
+    start: Start,
+    whole: Outcome,
+) -> io::Result<bool> {
     let call = start.call;
     let cut = bench::run(start, second);
     let again = bench::run(after(cut, call), Place::none());
     let same = compare::same(again, whole);
     if !same {
-        text::words(b"cut twice");
-        report::cut_at(first);
-        report::cut_at(second);
-        text::words(b": DIFFERS\n");
+        text::words(rt, "cut twice")?;
+        report::cut_at(rt, first)?;
+        report::cut_at(rt, second)?;
+        text::words(rt, ": DIFFERS\n")?;
     }
-    same
+    Ok(same)
 }
 
-fn each_second(first: Place, start: Start, whole: Outcome, tally: Tally) -> Tally {
+fn each_second(
+    rt: &impl Print,
+    first: Place,
+    start: Start,
+    whole: Outcome,
+    tally: Tally,
+) -> io::Result<Tally> {
     let mut out = tally;
     let mut second = Place::first();
-    for n in 0..bench::PLACES {
+    for _ in 0..bench::PLACES {
         if whole.has(second) {
-            out = out.counted(pair(first, second, start, whole));
+            out = out.counted(pair(rt, first, second, start, whole)?);
             second = whole.next(second);
         }
     }
-    out
+    Ok(out)
 }
 
-fn each_first(start: Start, whole: Outcome) -> Tally {
+fn each_first(rt: &impl Print, start: Start, whole: Outcome) -> io::Result<Tally> {
     let call = start.call;
     let mut tally = Tally::none();
     let mut first = Place::first();
-    for n in 0..bench::PLACES {
+    for _ in 0..bench::PLACES {
         if whole.has(first) {
             let cut = bench::run(start, first);
-            tally = each_second(first, after(cut, call), whole, tally);
+            tally = each_second(rt, first, after(cut, call), whole, tally)?;
             first = whole.next(first);
         }
     }
-    tally
+    Ok(tally)
 }
 
-pub(crate) fn all(name: &[u8], start: Start) {
+pub(crate) fn all(rt: &impl Print, name: &str, start: Start) -> io::Result<()> {
     let whole = bench::run(start, Place::none());
-    let tally = each_first(start, whole);
-    report::title(name, start);
-    text::words(b": cut twice at");
-    text::number(tally.tried);
-    text::words(b" pairs of places, then as if never cut:");
-    text::number(tally.same);
-    text::words(b" again\n");
+    let tally = each_first(rt, start, whole)?;
+    report::title(rt, name, start)?;
+    text::words(rt, ": cut twice at")?;
+    text::number(rt, tally.tried)?;
+    text::words(rt, " pairs of places, then as if never cut:")?;
+    text::number(rt, tally.same)?;
+    text::words(rt, " again\n")
 }

@@ -1,6 +1,9 @@
 // The fields of a log and of a tape.
 ghost use Rattle.std.specs.Prelude.{◌≤◌};
 
+use std::io;
+use text::Stream;
+
 // The byte k places after place i, or 0 past the end.
 pub(crate) fn byte(bytes: &[u8], i: usize, k: usize) -> u8 {
     if bytes.len() <= i {
@@ -13,26 +16,35 @@ pub(crate) fn byte(bytes: &[u8], i: usize, k: usize) -> u8 {
 }
 
 // Those from one to another of the bytes after place i.
-pub(crate) fn bytes(file: i32, bytes: &[u8], i: usize, from: usize, before: usize) {
-    let mut k = from;
-    while k < before {
-        text::hex_to(file, byte(bytes, i, k));
-        k += 1;
+pub(crate) fn bytes(
+    rt: &(impl Print + Eprint),
+    stream: Stream,
+    bytes: &[u8],
+    i: usize,
+    from: usize,
+    before: usize,
+) -> io::Result<()> {
+    for k in from..before {
+        text::hex_to(rt, stream, byte(bytes, i, k))?;
     }
+    Ok(())
 }
 
 // Of a write its register and the bytes sent after it, of a read its register and the count of bytes on the bus.
-pub(crate) fn transfer(file: i32, log: &[u8], i: usize) {
+pub(crate) fn transfer(
+    rt: &(impl Print + Eprint),
+    stream: Stream,
+    log: &[u8],
+    i: usize,
+) -> io::Result<()> {
     if byte(log, i, 0) == 0x11 {
-        text::words_to(file, b"W");
-        bytes(file, log, i, 4, size(log, i));
+        text::words_to(rt, stream, "W")?;
+        bytes(rt, stream, log, i, 4, size(log, i))
     } else {
-        text::words_to(file, b"R");
-        text::hex_to(file, byte(log, i, 4));
-        text::number_to(
-            file,
-            numbers::be_u16(byte(log, i, 5), byte(log, i, 6)) as u64,
-        );
+        text::words_to(rt, stream, "R")?;
+        text::hex_to(rt, stream, byte(log, i, 4))?;
+        let count = numbers::be_u16(byte(log, i, 5), byte(log, i, 6));
+        text::number_to(rt, stream, count as u64)
     }
 }
 
@@ -47,21 +59,27 @@ pub(crate) fn least(a: usize, b: usize) -> usize {
     if a < b { a } else { b }
 }
 
-fn line(log: &[u8], i: usize) {
-    transfer(text::OUT, log, i);
-    text::words(b"\n");
+fn line(rt: &(impl Print + Eprint), log: &[u8], i: usize) -> io::Result<()> {
+    transfer(rt, Stream::Out, log, i)?;
+    text::words(rt, "\n")
 }
 
 // A line each, of the part of the log that starts at one place and ends before another, or where the log ends.
-pub(crate) fn between(log: &[u8], from: usize, before: usize) {
+pub(crate) fn between(
+    rt: &(impl Print + Eprint),
+    log: &[u8],
+    from: usize,
+    before: usize,
+) -> io::Result<()> {
     let end = least(before, log.len());
     let mut i = from;
     while i < end {
         let size = size(log, i);
-        line(log, i);
+        line(rt, log, i)?;
         if end - i < size {
-            return;
+            return Ok(());
         }
         i += size;
     }
+    Ok(())
 }

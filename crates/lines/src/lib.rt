@@ -3,104 +3,101 @@
 
 use bus::Cursor;
 use plan::{CalculatedValues, InitAnswer};
+use std::io;
 
 mod fields;
 pub mod refused;
 
 // The fields that a call added to the log.
-pub fn transfers(log: &[u8], at: Cursor, next: Cursor) {
-    fields::between(log, at.log, next.log);
+pub fn transfers(
+    rt: &(impl Print + Eprint),
+    log: &[u8],
+    at: Cursor,
+    next: Cursor,
+) -> io::Result<()> {
+    fields::between(rt, log, at.log, next.log)
 }
 
 // What an init reports.
-pub fn init(values: CalculatedValues) {
+pub fn init(rt: &impl Print, values: CalculatedValues) -> io::Result<()> {
     let answer = InitAnswer::Ready(values);
     let numbers = answer.in_numbers();
     let uv = values.uv_threshold.0;
     let ov = values.ov_threshold.0;
-    text::words(b"init range");
-    text::number(numbers.0 as u64);
-    text::words(b" scd");
-    text::number(numbers.1 as u64);
-    text::words(b" ocd");
-    text::number(numbers.2 as u64);
-    text::words(b" uv");
-    text::signed_number(uv);
-    text::words(b" ov");
-    text::signed_number(ov);
-    text::words(b"\n");
+    text::words(rt, "init range")?;
+    text::number(rt, numbers.0 as u64)?;
+    text::words(rt, " scd")?;
+    text::number(rt, numbers.1 as u64)?;
+    text::words(rt, " ocd")?;
+    text::number(rt, numbers.2 as u64)?;
+    text::words(rt, " uv")?;
+    text::signed_number(rt, uv)?;
+    text::words(rt, " ov")?;
+    text::signed_number(rt, ov)?;
+    text::words(rt, "\n")
 }
 
-pub fn number(name: &[u8], n: u64) {
-    text::words(name);
-    text::number(n);
-    text::words(b"\n");
+pub fn number(rt: &impl Print, name: &str, n: u64) -> io::Result<()> {
+    text::words(rt, name)?;
+    text::number(rt, n)?;
+    text::words(rt, "\n")
 }
 
-pub fn signed_number(name: &[u8], n: i32) {
-    text::words(name);
-    text::signed_number(n);
-    text::words(b"\n");
+pub fn signed_number(rt: &impl Print, name: &str, n: i32) -> io::Result<()> {
+    text::words(rt, name)?;
+    text::signed_number(rt, n)?;
+    text::words(rt, "\n")
 }
 
 // The first `count` of a list, or all where it has no more.
-pub fn signed_numbers(name: &[u8], list: &[i32], count: usize) {
-    text::words(name);
-    let mut i = 0;
-    while i < list.len() {
-        if i < count {
-            text::signed_number(list[i]);
-        }
-        i += 1;
+pub fn signed_numbers(rt: &impl Print, name: &str, list: &[i32], count: usize) -> io::Result<()> {
+    text::words(rt, name)?;
+    for n in list.iter().take(count) {
+        text::signed_number(rt, *n)?;
     }
-    text::words(b"\n");
+    text::words(rt, "\n")
 }
 
 fn whole(n: u8) -> u64 {
     n as u64
 }
 
-pub fn small_numbers(name: &[u8], list: &[u8], count: usize) {
-    text::words(name);
-    let mut i = 0;
-    while i < list.len() {
-        if i < count {
-            text::number(whole(list[i]));
-        }
-        i += 1;
+pub fn small_numbers(rt: &impl Print, name: &str, list: &[u8], count: usize) -> io::Result<()> {
+    text::words(rt, name)?;
+    for n in list.iter().take(count) {
+        text::number(rt, whole(*n))?;
     }
-    text::words(b"\n");
+    text::words(rt, "\n")
 }
 
 // The number at a place, where there is one.
-fn number_at(list: &[i32], i: usize) {
+fn number_at(rt: &impl Print, list: &[i32], i: usize) -> io::Result<()> {
     if i < list.len() {
-        text::signed_number(list[i]);
+        text::signed_number(rt, list[i])?;
     }
+    Ok(())
 }
 
 // The first `count` of two lists, each number of the first ahead of the one beside it.
-pub fn pairs(name: &[u8], first: &[u8], second: &[i32], count: usize) {
-    text::words(name);
-    let mut i = 0;
-    while i < first.len() {
-        if i < count {
-            text::number(whole(first[i]));
-            number_at(second, i);
-        }
-        i += 1;
+pub fn pairs(
+    rt: &impl Print,
+    name: &str,
+    first: &[u8],
+    second: &[i32],
+    count: usize,
+) -> io::Result<()> {
+    text::words(rt, name)?;
+    for (i, n) in first.iter().take(count).enumerate() {
+        text::number(rt, whole(*n))?;
+        number_at(rt, second, i)?;
     }
-    text::words(b"\n");
+    text::words(rt, "\n")
 }
 
-pub fn bytes(name: &[u8], bytes: &[u8], count: usize) {
-    text::words(name);
-    let mut i = 0;
-    while i < bytes.len() {
-        if i < count {
-            text::hex(bytes[i]);
-        }
-        i += 1;
+pub fn bytes(rt: &impl Print, name: &str, bytes: &[u8], count: usize) -> io::Result<()> {
+    text::words(rt, name)?;
+    for b in bytes.iter().take(count) {
+        text::hex(rt, *b)?;
     }
-    text::words(b"\n");
+    text::words(rt, "\n")
 }

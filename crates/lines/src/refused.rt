@@ -2,97 +2,112 @@
 use crate::fields;
 use bus::Cursor;
 use refusals::Error;
+use std::io;
+use text::Stream;
 
 // As many bytes of a tape's field as are shown.
 const SHOWN: usize = 16;
 
 // Its number, and as many of the two figures as it names.
-fn line(e: Error) {
+fn line(rt: &impl Print, e: Error) -> io::Result<()> {
     let numbers = e.in_numbers();
     let first = numbers.2;
     let second = numbers.3;
-    text::words(b"refused");
-    text::number(numbers.0 as u64);
+    text::words(rt, "refused")?;
+    text::number(rt, numbers.0 as u64)?;
     if 0 < numbers.1 {
-        text::signed_number(first);
+        text::signed_number(rt, first)?;
     }
     if 1 < numbers.1 {
-        text::signed_number(second);
+        text::signed_number(rt, second)?;
     }
-    text::words(b"\n");
+    text::words(rt, "\n")
 }
 
-fn named(e: Error) {
+fn named(rt: &impl Eprint, e: Error) -> io::Result<()> {
     match e {
-        Error::CRCMismatch => text::aside(b"CRCMismatch"),
-        Error::I2CError => text::aside(b"I2CError"),
-        Error::BufTooLarge => text::aside(b"BufTooLarge"),
-        Error::Uninitialized => text::aside(b"Uninitialized"),
-        Error::VerifyError(_) => text::aside(b"VerifyError"),
-        Error::OCDSCDRangeMismatch => text::aside(b"OCDSCDRangeMismatch"),
-        Error::UVThresholdUnobtainable(_, _) => text::aside(b"UVThresholdUnobtainable"),
-        Error::OVThresholdUnobtainable(_, _) => text::aside(b"OVThresholdUnobtainable"),
-        Error::BadDevice => text::aside(b"BadDevice"),
-        Error::BadCellCount => text::aside(b"BadCellCount"),
-        Error::BadAddress => text::aside(b"BadAddress"),
-        Error::BadShunt => text::aside(b"BadShunt"),
-        Error::CurrentTooLarge => text::aside(b"CurrentTooLarge"),
-        Error::RegisterRunsOut => text::aside(b"RegisterRunsOut"),
-        Error::BadTape => text::aside(b"BadTape"),
-        Error::TapeEnded => text::aside(b"TapeEnded"),
-        Error::LogFull => text::aside(b"LogFull"),
-        Error::UnknownFlags => text::aside(b"UnknownFlags"),
-        Error::NoRoom => text::aside(b"NoRoom"),
-        Error::UnknownRange => text::aside(b"UnknownRange"),
-        Error::NoSuchInput => text::aside(b"NoSuchInput"),
-        Error::NotOnDevice => text::aside(b"NotOnDevice"),
-        Error::Neighbours => text::aside(b"Neighbours"),
-        Error::TooManyCells => text::aside(b"TooManyCells"),
+        Error::CRCMismatch => text::aside(rt, "CRCMismatch"),
+        Error::I2CError => text::aside(rt, "I2CError"),
+        Error::BufTooLarge => text::aside(rt, "BufTooLarge"),
+        Error::Uninitialized => text::aside(rt, "Uninitialized"),
+        Error::VerifyError(_) => text::aside(rt, "VerifyError"),
+        Error::OCDSCDRangeMismatch => text::aside(rt, "OCDSCDRangeMismatch"),
+        Error::UVThresholdUnobtainable(_, _) => text::aside(rt, "UVThresholdUnobtainable"),
+        Error::OVThresholdUnobtainable(_, _) => text::aside(rt, "OVThresholdUnobtainable"),
+        Error::BadDevice => text::aside(rt, "BadDevice"),
+        Error::BadCellCount => text::aside(rt, "BadCellCount"),
+        Error::BadAddress => text::aside(rt, "BadAddress"),
+        Error::BadShunt => text::aside(rt, "BadShunt"),
+        Error::CurrentTooLarge => text::aside(rt, "CurrentTooLarge"),
+        Error::RegisterRunsOut => text::aside(rt, "RegisterRunsOut"),
+        Error::BadTape => text::aside(rt, "BadTape"),
+        Error::TapeEnded => text::aside(rt, "TapeEnded"),
+        Error::LogFull => text::aside(rt, "LogFull"),
+        Error::UnknownFlags => text::aside(rt, "UnknownFlags"),
+        Error::NoRoom => text::aside(rt, "NoRoom"),
+        Error::UnknownRange => text::aside(rt, "UnknownRange"),
+        Error::NoSuchInput => text::aside(rt, "NoSuchInput"),
+        Error::NotOnDevice => text::aside(rt, "NotOnDevice"),
+        Error::Neighbours => text::aside(rt, "Neighbours"),
+        Error::TooManyCells => text::aside(rt, "TooManyCells"),
     }
 }
 
 // In the job: the field at fault, of this tag, begins at byte `at`, or should begin there.
-pub fn in_job(e: Error, job: &[u8], at: usize, tag: u8) {
-    line(e);
-    named(e);
+pub fn in_job(
+    rt: &(impl Print + Eprint),
+    e: Error,
+    job: &[u8],
+    at: usize,
+    tag: u8,
+) -> io::Result<()> {
+    line(rt, e)?;
+    named(rt, e)?;
     if (at < job.len()) & (fields::byte(job, at, 0) == tag) {
-        text::aside(b": in the job, field");
+        text::aside(rt, ": in the job, field")?;
     } else {
-        text::aside(b": in the job, no field");
+        text::aside(rt, ": in the job, no field")?;
     }
-    text::hex_to(text::ASIDE, tag);
-    text::aside(b" at byte");
-    text::number_to(text::ASIDE, at as u64);
-    text::aside(b"\n");
+    text::hex_to(rt, Stream::Aside, tag)?;
+    text::aside(rt, " at byte")?;
+    text::number_to(rt, Stream::Aside, at as u64)?;
+    text::aside(rt, "\n")
 }
 
-fn named_call(e: Error, call: usize) {
-    line(e);
-    named(e);
-    text::aside(b": call");
-    text::number_to(text::ASIDE, call as u64);
+fn named_call(rt: &(impl Print + Eprint), e: Error, call: usize) -> io::Result<()> {
+    line(rt, e)?;
+    named(rt, e)?;
+    text::aside(rt, ": call")?;
+    text::number_to(rt, Stream::Aside, call as u64)
 }
 
 // At a call; they are counted from 1.
-pub fn at_call(e: Error, call: usize) {
-    named_call(e, call);
-    text::aside(b"\n");
+pub fn at_call(rt: &(impl Print + Eprint), e: Error, call: usize) -> io::Result<()> {
+    named_call(rt, e, call)?;
+    text::aside(rt, "\n")
 }
 
 // For want of tape. What the call wants is found by making it once more, on `again` from its start: what it used of the tape, and a fault behind. So
 // this begins the words, and `wanted` ends them with the log of that call.
-pub fn wants(e: Error, call: usize, tape: &[u8], at: Cursor, next: Cursor, again: &mut [u8]) {
-    named_call(e, call);
-    text::aside(b" wants ");
-    let used = std::num::wrapping_sub_usize(next.tape, at.tape);
+pub fn wants(
+    rt: &(impl Print + Eprint),
+    e: Error,
+    call: usize,
+    tape: &[u8],
+    at: Cursor,
+    next: Cursor,
+    again: &mut [u8],
+) -> io::Result<()> {
+    named_call(rt, e, call)?;
+    text::aside(rt, " wants ")?;
+    let used = next.tape.wrapping_sub(at.tape);
     fill(again, tape, at.tape, used);
+    Ok(())
 }
 
 fn fill(again: &mut [u8], tape: &[u8], from: usize, used: usize) {
-    let mut i = 0;
-    while i < again.len() {
+    for i in 0..again.len() {
         again[i] = filled(tape, from, used, i);
-        i += 1;
     }
 }
 
@@ -107,33 +122,35 @@ fn filled(tape: &[u8], from: usize, used: usize, i: usize) -> u8 {
 }
 
 // The transfer that met the fault stands in the log behind those that were made.
-pub fn wanted(log: &[u8], tape: &[u8], at: Cursor, next: Cursor) {
-    fields::transfer(
-        text::ASIDE,
-        log,
-        std::num::wrapping_sub_usize(next.log, at.log),
-    );
-    text::aside(b"; byte");
-    text::number_to(text::ASIDE, next.tape as u64);
-    text::aside(b" of the tape has");
-    held(tape, next.tape);
-    text::aside(b"\n");
+pub fn wanted(
+    rt: &(impl Print + Eprint),
+    log: &[u8],
+    tape: &[u8],
+    at: Cursor,
+    next: Cursor,
+) -> io::Result<()> {
+    fields::transfer(rt, Stream::Aside, log, next.log.wrapping_sub(at.log))?;
+    text::aside(rt, "; byte")?;
+    text::number_to(rt, Stream::Aside, next.tape as u64)?;
+    text::aside(rt, " of the tape has")?;
+    held(rt, tape, next.tape)?;
+    text::aside(rt, "\n")
 }
 
 // The field at a place, as far as it is there, and shown.
-fn held(tape: &[u8], at: usize) {
+fn held(rt: &(impl Print + Eprint), tape: &[u8], at: usize) -> io::Result<()> {
     if tape.len() <= at {
-        text::aside(b" nothing");
-        return;
+        return text::aside(rt, " nothing");
     }
     let size = fields::size(tape, at);
     let left = tape.len() - at;
     let there = fields::least(size, left);
-    fields::bytes(text::ASIDE, tape, at, 0, fields::least(there, SHOWN));
+    fields::bytes(rt, Stream::Aside, tape, at, 0, fields::least(there, SHOWN))?;
     if SHOWN < there {
-        text::aside(b" ..");
+        text::aside(rt, " ..")?;
     }
     if left < size {
-        text::aside(b", and then ends");
+        text::aside(rt, ", and then ends")?;
     }
+    Ok(())
 }

@@ -11,6 +11,7 @@ use protection::delays::OVDelay;
 use protection::ocd::{OCDStep, OCDThreshold};
 use protection::range::{Code, OCDSCDRange};
 use protection::scd::{SCDStep, SCDThreshold};
+use std::io;
 use units::flags::SysStat;
 use units::{Amperes, MicroOhms, MilliVolts};
 
@@ -28,18 +29,20 @@ fn ocd(amperes: u32, shunt: u32) -> u32 {
     }
 }
 
-fn steps() {
-    print::row(b"D2 OCD 256 A at 1000 uOhm: refused", ocd(256, 1000), 13);
+fn steps(rt: &impl Print) -> io::Result<()> {
+    print::row(rt, "D2 OCD 256 A at 1000 uOhm: refused", ocd(256, 1000), 13)?;
     print::row(
-        b"D3 SCD 65536 A at 65536 uOhm: refused",
+        rt,
+        "D3 SCD 65536 A at 65536 uOhm: refused",
         scd(65536, 65536),
         13,
-    );
+    )?;
     print::row(
-        b"D3 OCD 65536 A at 65536 uOhm: refused",
+        rt,
+        "D3 OCD 65536 A at 65536 uOhm: refused",
         ocd(65536, 65536),
         13,
-    );
+    )
 }
 
 fn code(code: Code) -> u32 {
@@ -49,21 +52,23 @@ fn code(code: Code) -> u32 {
     }
 }
 
-fn codes() {
+fn codes(rt: &impl Print) -> io::Result<()> {
     let scd = SCDThreshold::_22mV.bits(OCDSCDRange::Unknown);
     print::row(
-        b"D4 code of SCD 22 mV for range Unknown: refused",
+        rt,
+        "D4 code of SCD 22 mV for range Unknown: refused",
         code(scd),
         20,
-    );
+    )?;
     let ocd = OCDThreshold::_8mV.bits(OCDSCDRange::Unknown);
     print::row(
-        b"D5 code of OCD 8 mV for range Unknown: refused",
+        rt,
+        "D5 code of OCD 8 mV for range Unknown: refused",
         code(ocd),
         20,
-    );
+    )?;
     let range = OCDSCDRange::Unknown.bits();
-    print::row(b"D6 bit of range Unknown: refused", code(range), 20);
+    print::row(rt, "D6 bit of range Unknown: refused", code(range), 20)
 }
 
 fn current(high: u8, low: u8, shunt: u32) -> u32 {
@@ -73,22 +78,25 @@ fn current(high: u8, low: u8, shunt: u32) -> u32 {
     }
 }
 
-fn currents() {
+fn currents(rt: &impl Print) -> io::Result<()> {
     print::row(
-        b"D7 counter 1, shunt 0: refused",
+        rt,
+        "D7 counter 1, shunt 0: refused",
         current(0x00, 0x01, 0),
         12,
-    );
+    )?;
     print::row(
-        b"D8 counter 1, shunt 2147483648: refused",
+        rt,
+        "D8 counter 1, shunt 2147483648: refused",
         current(0x00, 0x01, 2147483648),
         12,
-    );
+    )?;
     print::row(
-        b"D8 counter 8000, shunt 4018405376: refused",
+        rt,
+        "D8 counter 8000, shunt 4018405376: refused",
         current(0x80, 0x00, 4018405376),
         12,
-    );
+    )
 }
 
 fn asked(gain: u16) -> u32 {
@@ -113,95 +121,111 @@ fn planned(gain: u16, shunt: u32) -> u32 {
     }
 }
 
-fn plans() {
+fn plans(rt: &impl Print) -> io::Result<()> {
     print::row(
-        b"D9 reading asked for 2800 mV at gain 0: refused",
+        rt,
+        "D9 reading asked for 2800 mV at gain 0: refused",
         asked(0),
         9,
-    );
-    print::row(b"D9 plan at gain 0: refused", planned(0, 1000), 9);
-    print::row(b"D10 plan with shunt 0: refused", planned(365, 0), 12);
+    )?;
+    print::row(rt, "D9 plan at gain 0: refused", planned(0, 1000), 9)?;
+    print::row(rt, "D10 plan with shunt 0: refused", planned(365, 0), 12)
 }
 
-fn millivolts() {
+fn millivolts(rt: &impl Print) -> io::Result<()> {
     print::row(
-        b"D35 SCD step 200 mV: mV",
+        rt,
+        "D35 SCD step 200 mV: mV",
         SCDThreshold::_200mV.mv() as u32,
         200,
-    );
+    )?;
     print::row(
-        b"D35 OCD step 100 mV: mV",
+        rt,
+        "D35 OCD step 100 mV: mV",
         OCDThreshold::_100mV.mv() as u32,
         100,
-    );
+    )
 }
 
-fn readings() {
+fn readings(rt: &impl Print) -> io::Result<()> {
     let wide = AdcTransferFunction {
         gain: 65535,
         offset: 0,
     };
     print::signed_row(
-        b"D38 reading FFFF, gain 65535: mV",
+        rt,
+        "D38 reading FFFF, gain 65535: mV",
         wide.apply(0xFFFF).0,
         4294836,
-    );
+    )?;
     let low = AdcTransferFunction {
         gain: 365,
         offset: -1,
     };
     print::signed_row(
-        b"D38 reading 0, gain 365, offset -1: mV",
+        rt,
+        "D38 reading 0, gain 365, offset -1: mV",
         low.apply(0).0,
         -1,
-    );
+    )
 }
 
-fn flags() {
+fn flags(rt: &impl Print) -> io::Result<()> {
     let both = SysStat::CC_READY.union(SysStat::OVERCURRENT);
     print::row(
-        b"D39 CC_READY and OVERCURRENT in one set",
+        rt,
+        "D39 CC_READY and OVERCURRENT in one set",
         both.bits() as u32,
         0x81,
-    );
+    )?;
     let set = SysStat { bits: 0x40 };
-    print::row(b"D39 the set of bit 6", set.bits() as u32, 0x40);
+    print::row(rt, "D39 the set of bit 6", set.bits() as u32, 0x40)
 }
 
-fn packs() {
+fn packs(rt: &impl Print) -> io::Result<()> {
     let high = AdcTransferFunction {
         gain: 365,
         offset: 1,
     };
     print::signed_row(
-        b"D54 pack of 3 cells, reading 0, offset 1: mV (5 before)",
+        rt,
+        "D54 pack of 3 cells, reading 0, offset 1: mV (5 before)",
         high.pack_voltage(3, 0).0,
         3,
-    );
-    print::signed_row(b"D54 the same of 5 cells: mV", high.pack_voltage(5, 0).0, 5);
+    )?;
+    print::signed_row(
+        rt,
+        "D54 the same of 5 cells: mV",
+        high.pack_voltage(5, 0).0,
+        5,
+    )
 }
 
-fn delays() {
+fn delays(rt: &impl Print) -> io::Result<()> {
     print::row(
-        b"D53 OV delay of 1 s: bits",
+        rt,
+        "D53 OV delay of 1 s: bits",
         OVDelay::_1s.bits() as u32,
         0x00,
-    );
+    )?;
     print::row(
-        b"D53 OV delay of 2 s: bits",
+        rt,
+        "D53 OV delay of 2 s: bits",
         OVDelay::_2s.bits() as u32,
         0x10,
-    );
+    )?;
     print::row(
-        b"D53 OV delay of 4 s: bits (16 before)",
+        rt,
+        "D53 OV delay of 4 s: bits (16 before)",
         OVDelay::_4s.bits() as u32,
         0x20,
-    );
+    )?;
     print::row(
-        b"D53 OV delay of 8 s: bits (32 before)",
+        rt,
+        "D53 OV delay of 8 s: bits (32 before)",
         OVDelay::_8s.bits() as u32,
         0x30,
-    );
+    )
 }
 
 fn told(answer: SecondsAnswer) -> u32 {
@@ -211,38 +235,42 @@ fn told(answer: SecondsAnswer) -> u32 {
     }
 }
 
-fn delay_seconds() {
+fn delay_seconds(rt: &impl Print) -> io::Result<()> {
     print::row(
-        b"D53 OV delay of code 1: s (4 before)",
+        rt,
+        "D53 OV delay of code 1: s (4 before)",
         told(seconds::ov_seconds(1)),
         2,
-    );
+    )?;
     print::row(
-        b"D79 OV delay of code 3: s",
+        rt,
+        "D79 OV delay of code 3: s",
         told(seconds::ov_seconds(3)),
         8,
-    );
+    )?;
     print::row(
-        b"D79 UV delay of code 3: s",
+        rt,
+        "D79 UV delay of code 3: s",
         told(seconds::uv_seconds(3)),
         16,
-    );
+    )?;
     print::row(
-        b"D79 UV delay of code 4: refused",
+        rt,
+        "D79 UV delay of code 4: refused",
         told(seconds::uv_seconds(4)),
         15,
-    );
+    )
 }
 
-pub(crate) fn functions() {
-    steps();
-    codes();
-    currents();
-    plans();
-    millivolts();
-    readings();
-    flags();
-    packs();
-    delays();
-    delay_seconds();
+pub(crate) fn functions(rt: &impl Print) -> io::Result<()> {
+    steps(rt)?;
+    codes(rt)?;
+    currents(rt)?;
+    plans(rt)?;
+    millivolts(rt)?;
+    readings(rt)?;
+    flags(rt)?;
+    packs(rt)?;
+    delays(rt)?;
+    delay_seconds(rt)
 }

@@ -5,6 +5,7 @@ use bq769x0::BQ769x0;
 use bus::Cursor;
 use bus::link::Link;
 use cells::crate_list;
+use std::io;
 use units::MicroOhms;
 
 // At gain 365 and offset 0.
@@ -32,36 +33,36 @@ fn read(cell_count: u8, list: &mut [i32; 10]) {
     crate_list::cell_voltages(device(cell_count), list, &tape, &mut log, at);
 }
 
-fn row(cell: u32, millivolts: i32, should: u32) {
-    text::words(b"  cell");
-    text::number(cell as u64);
-    print::row(b", input", numbers::as_u32(millivolts) / 365, should);
+fn row(rt: &impl Print, cell: u32, millivolts: i32, should: u32) -> io::Result<()> {
+    text::words(rt, "  cell")?;
+    text::number(rt, cell as u64)?;
+    print::row(rt, ", input", numbers::as_u32(millivolts) / 365, should)
 }
 
-pub(crate) fn ten() {
+pub(crate) fn ten(rt: &impl Print) -> io::Result<()> {
     let mut list = [0i32; 10];
     read(10, &mut list);
-    text::words(b"BQ76930, 10 cells\n");
-    row(1, list[0], 1);
-    row(2, list[1], 2);
-    row(3, list[2], 3);
-    row(4, list[3], 5);
-    row(5, list[4], 5);
-    row(6, list[5], 6);
-    row(7, list[6], 7);
-    row(8, list[7], 10);
-    row(9, list[8], 9);
-    row(10, list[9], 10);
+    text::words(rt, "BQ76930, 10 cells\n")?;
+    row(rt, 1, list[0], 1)?;
+    row(rt, 2, list[1], 2)?;
+    row(rt, 3, list[2], 3)?;
+    row(rt, 4, list[3], 5)?;
+    row(rt, 5, list[4], 5)?;
+    row(rt, 6, list[5], 6)?;
+    row(rt, 7, list[6], 7)?;
+    row(rt, 8, list[7], 10)?;
+    row(rt, 9, list[8], 9)?;
+    row(rt, 10, list[9], 10)
 }
 
-pub(crate) fn six() {
+pub(crate) fn six(rt: &impl Print) -> io::Result<()> {
     let mut list = [0i32; 10];
     read(6, &mut list);
-    text::words(b"BQ76930, 6 cells\n");
-    row(1, list[0], 1);
-    row(2, list[1], 2);
-    row(3, list[2], 5);
-    row(4, list[3], 4);
-    row(5, list[4], 5);
-    row(6, list[5], 6);
+    text::words(rt, "BQ76930, 6 cells\n")?;
+    row(rt, 1, list[0], 1)?;
+    row(rt, 2, list[1], 2)?;
+    row(rt, 3, list[2], 5)?;
+    row(rt, 4, list[3], 4)?;
+    row(rt, 5, list[4], 5)?;
+    row(rt, 6, list[5], 6)
 }

@@ -1,20 +1,21 @@
 // One line a row: what it is, what came, what should have come.
+use std::io;
 
-pub(crate) fn row(name: &[u8], came: u32, should: u32) {
-    text::words(name);
-    text::words(b":");
-    text::number(came as u64);
-    text::words(b", should be");
-    text::number(should as u64);
-    text::words(b"\n");
+pub(crate) fn row(rt: &impl Print, name: &str, came: u32, should: u32) -> io::Result<()> {
+    text::words(rt, name)?;
+    text::words(rt, ":")?;
+    text::number(rt, came as u64)?;
+    text::words(rt, ", should be")?;
+    text::number(rt, should as u64)?;
+    text::words(rt, "\n")
 }
 
 // The same for a number that may be below zero.
-pub(crate) fn signed_row(name: &[u8], came: i32, should: i32) {
-    text::words(name);
-    text::words(b":");
-    text::signed_number(came);
-    text::words(b", should be");
-    text::signed_number(should);
-    text::words(b"\n");
+pub(crate) fn signed_row(rt: &impl Print, name: &str, came: i32, should: i32) -> io::Result<()> {
+    text::words(rt, name)?;
+    text::words(rt, ":")?;
+    text::signed_number(rt, came)?;
+    text::words(rt, ", should be")?;
+    text::signed_number(rt, should)?;
+    text::words(rt, "\n")
 }

@@ -8,6 +8,7 @@ use bus::Cursor;
 use bus::link::{Link, RawAnswer};
 use cells::crate_list;
 use measuring::pack;
+use std::io;
 use units::MicroOhms;
 
 // The status read from a log's begin.
@@ -22,7 +23,7 @@ fn read_status(link: Link, log: &mut [u8]) -> u32 {
     }
 }
 
-fn transfers() {
+fn transfers(rt: &impl Print) -> io::Result<()> {
     let mut log = [0u8; 7];
     let far = Link {
         address: 128,
@@ -30,23 +31,25 @@ fn transfers() {
         x: 5,
     };
     print::row(
-        b"D11 setup with address 128: refused",
+        rt,
+        "D11 setup with address 128: refused",
         read_status(far, &mut log),
         9,
-    );
+    )?;
     let none = Link {
         address: 8,
         check: false,
         x: 6,
     };
     print::row(
-        b"D11 setup with X 6: refused",
+        rt,
+        "D11 setup with X 6: refused",
         read_status(none, &mut log),
         9,
-    );
+    )
 }
 
-fn logs() {
+fn logs(rt: &impl Print) -> io::Result<()> {
     let link = Link {
         address: 8,
         check: false,
@@ -54,16 +57,18 @@ fn logs() {
     };
     let mut short = [0u8; 6];
     print::row(
-        b"D27 a read with 6 bytes of log: refused",
+        rt,
+        "D27 a read with 6 bytes of log: refused",
         read_status(link, &mut short),
         17,
-    );
+    )?;
     let mut log = [0u8; 7];
     print::row(
-        b"D27 the same with 7: refused",
+        rt,
+        "D27 the same with 7: refused",
         read_status(link, &mut log),
         0,
-    );
+    )
 }
 
 // A BQ76920 of five cells that is marked as initialised.
@@ -91,20 +96,22 @@ fn current(device: BQ769x0) -> u32 {
     }
 }
 
-fn unsound() {
+fn unsound(rt: &impl Print) -> io::Result<()> {
     print::row(
-        b"D29 current of a record marked with shunt 0: refused",
+        rt,
+        "D29 current of a record marked with shunt 0: refused",
         current(marked(0)),
         9,
-    );
+    )?;
     print::row(
-        b"D29 the same with shunt 2147483648: refused",
+        rt,
+        "D29 the same with shunt 2147483648: refused",
         current(marked(2147483648)),
         9,
-    );
+    )
 }
 
-fn not_made() {
+fn not_made(rt: &impl Print) -> io::Result<()> {
     let made = BQ769x0::new(6, 8, 6, false);
     let answer = made.answer;
     let device = made.device;
@@ -112,9 +119,14 @@ fn not_made() {
         NewAnswer::Made => 0,
         NewAnswer::Refused(e) => e.number() as u32,
     };
-    print::row(b"D30 new with X 6: refused", number, 9);
-    print::row(b"D30 X of the record it leaves", device.link.x as u32, 0);
-    print::row(b"D30 current of that record: refused", current(device), 9);
+    print::row(rt, "D30 new with X 6: refused", number, 9)?;
+    print::row(rt, "D30 X of the record it leaves", device.link.x as u32, 0)?;
+    print::row(
+        rt,
+        "D30 current of that record: refused",
+        current(device),
+        9,
+    )
 }
 
 // How many cells of five are handed back, or 16 for more than there are.
@@ -124,35 +136,37 @@ fn handed(list: &mut [i32]) -> u32 {
     if n < 16 { n as u32 } else { 16 }
 }
 
-fn parts() {
+fn parts(rt: &impl Print) -> io::Result<()> {
     let mut short = [0i32; 4];
     print::row(
-        b"D33 cells handed back of a list of 4",
+        rt,
+        "D33 cells handed back of a list of 4",
         handed(&mut short),
         0,
-    );
+    )?;
     let mut list = [0i32; 6];
     print::row(
-        b"D33 cells handed back of a list of 6",
+        rt,
+        "D33 cells handed back of a list of 6",
         handed(&mut list),
         5,
-    );
+    )
 }
 
-fn constants() {
-    print::row(b"D34 BQ76920", BQ769x0::BQ76920 as u32, 5);
-    print::row(b"D34 BQ76930", BQ769x0::BQ76930 as u32, 10);
-    print::row(b"D34 BQ76940", BQ769x0::BQ76940 as u32, 15);
-    print::row(b"D34 SYS_CTRL2", BQ769x0::SYS_CTRL2 as u32, 0x05);
-    print::row(b"D34 PROTECT1", BQ769x0::PROTECT1 as u32, 0x06);
-    print::row(b"D34 ADCGAIN1", BQ769x0::ADCGAIN1 as u32, 0x50);
+fn constants(rt: &impl Print) -> io::Result<()> {
+    print::row(rt, "D34 BQ76920", BQ769x0::BQ76920 as u32, 5)?;
+    print::row(rt, "D34 BQ76930", BQ769x0::BQ76930 as u32, 10)?;
+    print::row(rt, "D34 BQ76940", BQ769x0::BQ76940 as u32, 15)?;
+    print::row(rt, "D34 SYS_CTRL2", BQ769x0::SYS_CTRL2 as u32, 0x05)?;
+    print::row(rt, "D34 PROTECT1", BQ769x0::PROTECT1 as u32, 0x06)?;
+    print::row(rt, "D34 ADCGAIN1", BQ769x0::ADCGAIN1 as u32, 0x50)
 }
 
-pub(crate) fn records() {
-    transfers();
-    logs();
-    unsound();
-    not_made();
-    parts();
-    constants();
+pub(crate) fn records(rt: &impl Print) -> io::Result<()> {
+    transfers(rt)?;
+    logs(rt)?;
+    unsound(rt)?;
+    not_made(rt)?;
+    parts(rt)?;
+    constants(rt)
 }

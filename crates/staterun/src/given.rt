@@ -12,6 +12,7 @@ use call_text::state::{Prints, State};
 use calls::{HeadAnswer, Heading};
 use job::Device;
 use refusals::Error;
+use std::io;
 use units::{MicroOhms, MilliVolts};
 
 // As long as fields 1D and 1E are with their tags and lengths.
@@ -134,70 +135,77 @@ fn is_given(field: &[u8]) -> bool
 }
 
 // For a field of this tag, which should begin at `at`.
-fn refused(input: &[u8], at: usize, tag: u8) {
-    lines::refused::in_job(Error::BadTape, input, at, tag);
+fn refused(rt: &(impl Print + Eprint), input: &[u8], at: usize, tag: u8) -> io::Result<()> {
+    lines::refused::in_job(rt, Error::BadTape, input, at, tag)
 }
 
 // 15, then the calls, whatever the record.
-pub(crate) fn print(input: &[u8]) {
+pub(crate) fn print(rt: &(impl Print + Eprint), input: &[u8]) -> io::Result<()> {
     if input.len() == 0 {
-        refused(input, 0, 0x1E);
-        return;
+        return refused(rt, input, 0, 0x1E);
     }
     if input[0] != 0x1D {
-        given(input, 0, no_wired());
-        return;
+        return given(rt, input, 0, no_wired());
     }
     if input.len() < WIRED {
-        refused(input, 0, 0x1D);
-        return;
+        return refused(rt, input, 0, 0x1D);
     }
     if numbers::be_u16(input[1], input[2]) != 72 {
-        refused(input, 0, 0x1D);
-        return;
+        return refused(rt, input, 0, 0x1D);
     }
-    given(input, WIRED, wired_of(&input[3..WIRED]));
+    given(rt, input, WIRED, wired_of(&input[3..WIRED]))
 }
 
 // Field 1E from `at` on, and the job behind it.
-fn given(input: &[u8], at: usize, wired: Wired)
+fn given(rt: &(impl Print + Eprint), input: &[u8], at: usize, wired: Wired) -> io::Result<()>
     requires { at ≤ length input.now }
 {
     if input.len() - at < GIVEN {
-        refused(input, at, 0x1E);
-        return;
+        return refused(rt, input, at, 0x1E);
     }
     let job_at = at + GIVEN;
     let field = &input[at..job_at];
     if !is_given(field) {
-        refused(input, at, 0x1E);
-        return;
+        return refused(rt, input, at, 0x1E);
     }
     let job = &input[job_at..];
     match calls::head(job) {
-        HeadAnswer::Wanted(heading) => run(input, at, &field[3..GIVEN], wired, job, heading),
-        HeadAnswer::Refused(_) => refusing::job(input, job_at, job_at + calls::CALLS_AT),
+        HeadAnswer::Wanted(heading) => run(rt, input, at, &field[3..GIVEN], wired, job, heading),
+        HeadAnswer::Refused(_) => refusing::job(rt, input, job_at, job_at + calls::CALLS_AT),
     }
 }
 
 // 15 where the log is asked too large; each byte of it is EE before.
-fn run(input: &[u8], at: usize, value: &[u8], wired: Wired, job: &[u8], heading: Heading)
+fn run(
+    rt: &(impl Print + Eprint),
+    input: &[u8],
+    at: usize,
+    value: &[u8],
+    wired: Wired,
+    job: &[u8],
+    heading: Heading,
+) -> io::Result<()>
     requires { length value.now ≡ 88 }
 {
     let asked = heading.device;
     let tape_at = heading.tape_at;
     let size = four(value, 68) as usize;
     if 65536 < size {
-        refused(input, at, 0x1E);
-        return;
+        return refused(rt, input, at, 0x1E);
     }
     let state = state_of(asked, value, wired);
     let mut log = [0xEEu8; 65536];
-    with_log(job, tape_at, state, &mut log[..size]);
+    with_log(rt, job, tape_at, state, &mut log[..size])
 }
 
 // The calls, and the log they leave.
-fn with_log(job: &[u8], tape_at: usize, state: State, log: &mut [u8]) {
-    call_text::print(job, tape_at, state, log);
-    lines::bytes(b"log", log, log.len());
+fn with_log(
+    rt: &(impl Print + Eprint),
+    job: &[u8],
+    tape_at: usize,
+    state: State,
+    log: &mut [u8],
+) -> io::Result<()> {
+    call_text::print(rt, job, tape_at, state, log)?;
+    lines::bytes(rt, "log", log, log.len())
 }

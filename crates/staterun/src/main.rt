@@ -2,10 +2,12 @@
 // what callrun does, and the lent lists and the log whole.
 #![tactic(auto)]
 
+use std::io;
+
 mod given;
 
-fn main() {
+fn main(rt: HostRuntime) -> io::Result<()> {
     let mut input = [0u8; 32768];
-    let n = io::read_full(0, &mut input);
-    given::print(&input[..n]);
+    let n = text::read_full(&mut rt.stdin(), &mut input)?;
+    given::print(&rt, &input[..n])
 }

@@ -1,61 +1,71 @@
-// What the programs print on standard output: words and numbers; and the same aside, on standard error, for a person.
+// What the programs print on standard output: words and numbers; and the same aside, on standard error, for a person. And what they read.
 #![tactic(auto)]
 
-use libc::{STDERR_FILENO, STDOUT_FILENO};
+ghost use Rattle.std.specs.Prelude.{◌≤◌, IfOk, length};
 
-pub const OUT: i32 = STDOUT_FILENO;
+use std::fmt::Display;
+use std::io;
+use std::io::Read;
 
-pub const ASIDE: i32 = STDERR_FILENO;
-
-pub fn words_to(file: i32, text: &[u8]) {
-    io::write_all(file, text);
+#[derive(Clone, Copy)]
+pub enum Stream {
+    Out,
+    Aside,
 }
 
-pub fn words(text: &[u8]) {
-    words_to(OUT, text);
-}
-
-pub fn aside(text: &[u8]) {
-    words_to(ASIDE, text);
-}
-
-fn digit(d: u8) -> u8 {
-    if d < 10 {
-        48 + d
-    } else if d < 16 {
-        55 + d
-    } else {
-        63
+pub fn words_to<D: Display + Drop>(
+    rt: &(impl Print + Eprint),
+    stream: Stream,
+    text: D,
+) -> io::Result<()> {
+    match stream {
+        Stream::Out => rt.print(text),
+        Stream::Aside => rt.eprint(text),
     }
+}
+
+pub fn words(rt: &impl Print, text: &str) -> io::Result<()> {
+    rt.print(text)
+}
+
+pub fn aside(rt: &impl Eprint, text: &str) -> io::Result<()> {
+    rt.eprint(text)
 }
 
 // Two digits, in upper case, after a blank.
-pub fn hex_to(file: i32, b: u8) {
-    let text = [32, digit(b / 16), digit(b % 16)];
-    words_to(file, &text);
+pub fn hex_to(rt: &(impl Print + Eprint), stream: Stream, b: u8) -> io::Result<()> {
+    words_to(rt, stream, format_args!(" {b:02X}"))
 }
 
-pub fn hex(b: u8) {
-    hex_to(OUT, b);
+pub fn hex(rt: &impl Print, b: u8) -> io::Result<()> {
+    print!(rt; " {b:02X}")
 }
 
 // After a blank, in decimal.
-pub fn number_to(file: i32, n: u64) {
-    words_to(file, b" ");
-    io::print_decimal(file, n);
+pub fn number_to(rt: &(impl Print + Eprint), stream: Stream, n: u64) -> io::Result<()> {
+    words_to(rt, stream, format_args!(" {n}"))
 }
 
-pub fn number(n: u64) {
-    number_to(OUT, n);
+pub fn number(rt: &impl Print, n: u64) -> io::Result<()> {
+    print!(rt; " {n}")
 }
 
 // The same, of a number that may be below zero.
-pub fn signed_number(n: i32) {
-    let bits = numbers::as_u32(n);
-    if n < 0 {
-        words(b" -");
-        io::print_decimal(OUT, std::num::wrapping_sub_u32(0, bits) as u64);
-    } else {
-        number(bits as u64);
+pub fn signed_number(rt: &impl Print, n: i32) -> io::Result<()> {
+    print!(rt; " {n}")
+}
+
+// Reads until the buffer is full or the input ends; how many bytes came.
+pub fn read_full(from: &mut impl Read, buf: &mut [u8]) -> io::Result<usize>
+    ensures { IfOk result (λ n. n ≤ length buf.new) }
+{
+    let mut done = 0;
+    while done < buf.len() {
+        let n = from.read(&mut buf[done..])?;
+        if n == 0 {
+            return Ok(done);
+        }
+        done += n;
     }
+    Ok(done)
 }
