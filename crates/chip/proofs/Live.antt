@@ -116,7 +116,7 @@ module _ {S : Type 0} (move : S → Transfer → Reached S Outcome) where
   unfolding made_on
   pass_short h zero s = tt
   pass_short nothing (suc n) s = tt
-  pass_short (this {t = t} h k) (suc n) s = (h, pass_short (k (move s t).answer) n (move s t).device)
+  pass_short (this {t = t} {k = k'} h k) (suc n) s = (h, pass_short {p = k' (move s t).answer} (k (move s t).answer) n (move s t).device)
 
   pass_within : {A : Type 0} (n : ℕ) (p : Prog A) (s : S) → length (pass_log n p s) ≤ length (log_of move p s)
   unfolding pass_log log_of

@@ -8,7 +8,7 @@ use Prim.Native.Nat.{ℕ}
 use lib.ListN.{take}
 use Rattle.laws.specs.Choice.{if◌then◌else◌}
 use Rattle.bus.specs.Transfers.{Transfer, write, read, Outcome, fault}
-use Rattle.bus.specs.Programs.{Prog, ret, ask}
+use Rattle.bus.specs.Programs.{Prog, ask}
 use Rattle.chip.specs.Devices.{Reached, reached, on_device}
 use Rattle.chip.specs.Chip.{answers, carried, respond_cut, shows}
 use Rattle.chip.specs.OnChip.{Wired, uncut, next, on_wire, on_chip}

@@ -12,8 +12,8 @@ use lib.Bits.{bit_and}
 use lib.Dec.{eqb, leb, eqb-suc-suc}
 use borrow.Author.Tests.{eq-eqb, ne_eqb, leb-true, leb-false}
 use Rattle.check_byte.specs.CheckByte.{check_byte}
-use Rattle.frames.specs.Frames.{read_byte, checked, framed, read_frame}
-use Rattle.frames.proofs.Steps.{next}
+use Rattle.frames.specs.Frames.{write_byte, read_byte, checked, framed, read_frame}
+use Rattle.frames.proofs.Steps.{next, shifted}
 use Rattle.laws.specs.Choice.{if◌then◌else◌}
 use Rattle.chip.specs.Chip.{with_regs, begun, arrives, stores, agreed, held, shows}
 use Rattle.chip.specs.declared.Chip.{Chip}
@@ -75,6 +75,11 @@ module _ (r i : ℕ) (bytes regs : List ℕ) where
   pub stores_end : length bytes ≤ i → stores r (drop i bytes) regs ≡ regs
   unfolding stores
   stores_end h = rw (drop_of_length-le bytes h)
+
+-- ---- with checks: the first check byte of a write covers the address byte and the register too
+pub first_covered : (address r x : ℕ) {c : ℕ} → c ≡ check_byte (address * 2 % 256 ∷ r ∷ x ∷ [])
+    → c ≡ check_byte ((write_byte address ∷ r ∷ []) ++ x ∷ [])
+first_covered address r x e = e ∙ ap (λ (y : ℕ). check_byte (y ∷ r ∷ x ∷ [])) (shifted address)
 
 -- ---- with checks: a byte and its check byte
 module _ (before l : List ℕ) (i : ℕ) where

@@ -15,7 +15,7 @@ use crate::Chip;
 use check_byte::{check_byte1, check_byte3};
 
 // How a transfer goes: whole, or cut after so many bytes behind the address byte.
-#[derive(Drop)]
+#[derive(Clone, Copy)]
 pub enum Cut {
     Whole,
     After(usize),

@@ -14,7 +14,7 @@ use check_byte::{check_byte1, check_byte2, check_byte3};
 
 pub mod answer;
 
-#[derive(Drop)]
+#[derive(Clone, Copy)]
 pub struct Chip {
     pub address: u8,
     pub check: bool,

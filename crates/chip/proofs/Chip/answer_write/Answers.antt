@@ -1,0 +1,35 @@
+-- `Chip::answer_write` meets its contract.
+-- Assumes nothing.
+use Rattle.std.proofs.Common.{ap, ◌∙◌, List, ℕ, zero-le}
+use Rattle.bus.specs.Transfers.{Outcome}
+use Rattle.chip.specs.Answering.{as_cut, tells}
+use Rattle.chip.specs.Devices.{Reached}
+use Rattle.chip.specs.declared.Chip.{Chip}
+use Rattle.chip.specs.declared.answer.Answered.{Answered}
+use Rattle.chip.proofs.Answering.{begun_none, write_elsewhere, write_own}
+use Rattle.chip.proofs.Chip.answer_write.Goals as goal
+
+-- the tape and the chip after it, by how the transfer went
+abbrev after : Chip → List ℕ → ℕ → Reached Chip Outcome → List ℕ × Answered
+after chip tape end x = tells chip x tape end
+
+pub reply-requires : goal.reply-requires
+reply-requires c = begun_none c.args.self.check
+
+-- to another address
+pub returns-then-address-self : goal.returns-then-address-self
+returns-then-address-self c =
+    let a = c.args in
+    c.reply.ensures 0 zero-le
+    ∙ ap (after a.self a.tape.now a.end) (write_elsewhere (as_cut a.cut) a.self a.address c.if-address-self.true a.bytes.now)
+
+pub reply-requires-2 : goal.reply-requires-2
+reply-requires-2 c = begun_none c.args.self.check
+
+-- to the chip's own
+pub returns : goal.returns
+returns c =
+    let a = c.args in
+    c.reply-2.ensures 0 zero-le
+    ∙ ap (after a.self a.tape.now a.end)
+    (write_own (as_cut a.cut) a.self a.address a.bytes.now c.if-address-self.false _ c.is_done.ensures _ c.write.ensures)
