@@ -3,18 +3,18 @@
 -- their device and some lawful calls written out, and then the tape.
 -- Assumes nothing.
 use mathlib.Core.Path.{◌≡◌, refl, sym, ap, subst, ◌∙◌}
-use mathlib.Core.Bool.{Bool, true, false, cond, ◌&&◌, and-eq-true_iff}
+use mathlib.Core.Bool.{Bool, true, false, cond, and-eq-true_iff}
 use mathlib.Core.List.{List, [], ◌∷◌, ◌++◌, append_assoc}
 use mathlib.Core.Option.{Option, none, some}
-use Prim.Native.Nat.{ℕ, zero, suc, ◌+◌, ◌-◌, ◌≤◌, ◌<◌}
+use Prim.Native.Nat.{ℕ, zero, suc, ◌+◌, ◌-◌, ◌<◌}
 use native.Mathlib.Omega.{arith}
 use lib.ListN.{length, drop, length-append}
 use lib.Seq.{drop_at, get_or-drop}
-use lib.Dec.{T, eqb}
+use lib.Dec.{T}
 use borrow.Author.Tests.{eqb-true, ne_eqb}
 use Rattle.fields.specs.Fields.{field, unfield}
 use Rattle.fields.specs.Fields as read
-use Rattle.fields.proofs.Fields.{field_of, unfield_field, Whole, field_unfield}
+use Rattle.fields.proofs.Fields.{field_of, unfield_field, field_unfield}
 use Rattle.refusals.specs.Refusal.{Answer, value, refused, no}
 use Rattle.refusals.proofs.Values.{refused_not, same_value}
 use Rattle.job.specs.Jobs.{byte_at, device_for}

@@ -15,7 +15,7 @@ pub const CALLS_AT: usize = 7;
 pub const END: u8 = 0x3F;
 
 // A field's tag, and where its value lies.
-#[derive(Drop)]
+#[derive(Clone, Copy)]
 pub struct Field {
     pub tag: u8,
     pub start: usize,
@@ -41,7 +41,7 @@ pub enum HeadAnswer {
 }
 
 // What a call's value is; Unknown where no call has the tag.
-#[derive(Drop)]
+#[derive(Clone, Copy)]
 pub enum Shape {
     Unknown,
     Empty,
@@ -92,6 +92,7 @@ fn shape_of(tag: u8) -> Shape
     SHAPES[(tag - 0x21) as usize]
 }
 
+#[tactic(auto, unfolding(crate::specs::Shapes::below))]
 fn is_below(value: &[u8], bound: u8) -> bool
     ensures { result ≡ below bound value.now }
 {
@@ -101,6 +102,7 @@ fn is_below(value: &[u8], bound: u8) -> bool
     value[0] < bound
 }
 
+#[tactic(auto, unfolding(crate::specs::Shapes::reads))]
 fn is_read(value: &[u8]) -> bool
     ensures { result ≡ reads value.now }
 {
@@ -110,6 +112,7 @@ fn is_read(value: &[u8]) -> bool
     numbers::be_u16(value[1], value[2]) <= 512
 }
 
+#[tactic(auto, unfolding(crate::specs::Shapes::writes))]
 fn fits(shape: Shape, value: &[u8]) -> bool
     ensures { result ≡ fits shape value.now }
 {
@@ -126,6 +129,7 @@ fn fits(shape: Shape, value: &[u8]) -> bool
 }
 
 // Whether a field of this tag and value is a call.
+#[tactic(auto, unfolding(crate::specs::Shapes::lawful))]
 pub fn is_lawful(tag: u8, value: &[u8]) -> bool
     ensures { result ≡ lawful tag value.now }
 {

@@ -1,0 +1,11 @@
+-- The search from the place reached, over the fields that can still stand there, ends as the whole search does.
+use Rattle.std.proofs.Common.{◌≡◌, ℕ, ◌+◌, ◌-◌, ◌≤◌, length, drop}
+use Rattle.calls.specs.Heads.{end_from}
+use Rattle.calls.proofs.end_of_calls.Given as goal
+
+abbrev pub invariant-loop-at : goal.invariant-loop-at
+invariant-loop-at l =
+    (fields : ℕ) × (length l.input ≤ l.at + fields) × (end_from (length l.input) 7 (drop 7 l.input) ≡ end_from fields l.at (drop l.at l.input))
+
+abbrev pub decreases-loop-at : goal.decreases-loop-at
+decreases-loop-at l = length l.input - l.at
