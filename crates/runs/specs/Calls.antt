@@ -4,7 +4,7 @@ use Rattle.std.specs.Prelude.{◌≡◌, List, [], ◌∷◌, ◌++◌, ℕ, ◌
 use Rattle.std.proofs.Math.Option.{Option, none, some}
 use Rattle.bus.specs.Transfers.{Transfer, tape_field, bus_of}
 use Rattle.bus.specs.Programs.{Prog, on_tape, ran}
-use Rattle.bus.specs.Lent.{Lent}
+use Rattle.bus.specs.Lent.{Lent, LentMut}
 use Rattle.bus.specs.Decoders.{transfers_in}
 use Rattle.bus.specs.declared.Cursor.{Cursor}
 use Rattle.chip.specs.Devices.{tape_of}
@@ -23,7 +23,7 @@ pub record Call (A : Type 0) : Type 0 where
   pub at' : Cursor
 
 -- of a function with a lent tape and log
-abbrev pub lent_call : {A : Type 0} → Lent → Lent → Cursor → A → Cursor → Call A
+abbrev pub lent_call : {A : Type 0} → Lent → LentMut → Cursor → A → Cursor → Call A
 lent_call tape log at gave at' = record {
   tape = tape.entry.now;
   log = log.entry.now;
