@@ -5,7 +5,7 @@ use bus::Cursor;
 use plan::{CalculatedValues, InitAnswer};
 use std::io;
 
-mod fields;
+mod log_fields;
 pub mod refused;
 
 // The fields that a call added to the log.
@@ -15,7 +15,7 @@ pub fn transfers(
     at: Cursor,
     next: Cursor,
 ) -> io::Result<()> {
-    fields::between(rt, log, at.log, next.log)
+    log_fields::between(rt, log, at.log, next.log)
 }
 
 // What an init reports.

@@ -1,5 +1,5 @@
 // A refusal's line; and on standard error, for a person, its name and where it went wrong.
-use crate::fields;
+use crate::log_fields;
 use bus::Cursor;
 use refusals::Error;
 use std::io;
@@ -24,33 +24,40 @@ fn line(rt: &impl Print, e: Error) -> io::Result<()> {
     text::words(rt, "\n")
 }
 
-fn named(rt: &impl Eprint, e: Error) -> io::Result<()> {
+fn name(e: &Error) -> &'static str {
     match e {
-        Error::CRCMismatch => text::aside(rt, "CRCMismatch"),
-        Error::I2CError => text::aside(rt, "I2CError"),
-        Error::BufTooLarge => text::aside(rt, "BufTooLarge"),
-        Error::Uninitialized => text::aside(rt, "Uninitialized"),
-        Error::VerifyError(_) => text::aside(rt, "VerifyError"),
-        Error::OCDSCDRangeMismatch => text::aside(rt, "OCDSCDRangeMismatch"),
-        Error::UVThresholdUnobtainable(_, _) => text::aside(rt, "UVThresholdUnobtainable"),
-        Error::OVThresholdUnobtainable(_, _) => text::aside(rt, "OVThresholdUnobtainable"),
-        Error::BadDevice => text::aside(rt, "BadDevice"),
-        Error::BadCellCount => text::aside(rt, "BadCellCount"),
-        Error::BadAddress => text::aside(rt, "BadAddress"),
-        Error::BadShunt => text::aside(rt, "BadShunt"),
-        Error::CurrentTooLarge => text::aside(rt, "CurrentTooLarge"),
-        Error::RegisterRunsOut => text::aside(rt, "RegisterRunsOut"),
-        Error::BadTape => text::aside(rt, "BadTape"),
-        Error::TapeEnded => text::aside(rt, "TapeEnded"),
-        Error::LogFull => text::aside(rt, "LogFull"),
-        Error::UnknownFlags => text::aside(rt, "UnknownFlags"),
-        Error::NoRoom => text::aside(rt, "NoRoom"),
-        Error::UnknownRange => text::aside(rt, "UnknownRange"),
-        Error::NoSuchInput => text::aside(rt, "NoSuchInput"),
-        Error::NotOnDevice => text::aside(rt, "NotOnDevice"),
-        Error::Neighbours => text::aside(rt, "Neighbours"),
-        Error::TooManyCells => text::aside(rt, "TooManyCells"),
+        Error::CRCMismatch => "CRCMismatch",
+        Error::I2CError => "I2CError",
+        Error::BufTooLarge => "BufTooLarge",
+        Error::Uninitialized => "Uninitialized",
+        Error::VerifyError(_) => "VerifyError",
+        Error::OCDSCDRangeMismatch => "OCDSCDRangeMismatch",
+        Error::UVThresholdUnobtainable(_, _) => "UVThresholdUnobtainable",
+        Error::OVThresholdUnobtainable(_, _) => "OVThresholdUnobtainable",
+        Error::BadDevice => "BadDevice",
+        Error::BadCellCount => "BadCellCount",
+        Error::BadAddress => "BadAddress",
+        Error::BadShunt => "BadShunt",
+        Error::CurrentTooLarge => "CurrentTooLarge",
+        Error::RegisterRunsOut => "RegisterRunsOut",
+        Error::BadTape => "BadTape",
+        Error::TapeEnded => "TapeEnded",
+        Error::LogFull => "LogFull",
+        Error::UnknownFlags => "UnknownFlags",
+        Error::NoRoom => "NoRoom",
+        Error::UnknownRange => "UnknownRange",
+        Error::NoSuchInput => "NoSuchInput",
+        Error::NotOnDevice => "NotOnDevice",
+        Error::Neighbours => "Neighbours",
+        Error::TooManyCells => "TooManyCells",
     }
+}
+
+// The line, and the name.
+fn named(rt: &(impl Print + Eprint), e: Error) -> io::Result<()> {
+    let name = name(&e);
+    line(rt, e)?;
+    text::aside(rt, name)
 }
 
 // In the job: the field at fault, of this tag, begins at byte `at`, or should begin there.
@@ -61,9 +68,8 @@ pub fn in_job(
     at: usize,
     tag: u8,
 ) -> io::Result<()> {
-    line(rt, e)?;
     named(rt, e)?;
-    if (at < job.len()) & (fields::byte(job, at, 0) == tag) {
+    if (at < job.len()) & (log_fields::byte(job, at, 0) == tag) {
         text::aside(rt, ": in the job, field")?;
     } else {
         text::aside(rt, ": in the job, no field")?;
@@ -75,7 +81,6 @@ pub fn in_job(
 }
 
 fn named_call(rt: &(impl Print + Eprint), e: Error, call: usize) -> io::Result<()> {
-    line(rt, e)?;
     named(rt, e)?;
     text::aside(rt, ": call")?;
     text::number_to(rt, Stream::Aside, call as u64)
@@ -113,7 +118,7 @@ fn fill(again: &mut [u8], tape: &[u8], from: usize, used: usize) {
 
 fn filled(tape: &[u8], from: usize, used: usize, i: usize) -> u8 {
     if i < used {
-        fields::byte(tape, from, i)
+        log_fields::byte(tape, from, i)
     } else if i == used {
         0x02
     } else {
@@ -129,7 +134,7 @@ pub fn wanted(
     at: Cursor,
     next: Cursor,
 ) -> io::Result<()> {
-    fields::transfer(rt, Stream::Aside, log, next.log.wrapping_sub(at.log))?;
+    log_fields::transfer(rt, Stream::Aside, log, next.log.wrapping_sub(at.log))?;
     text::aside(rt, "; byte")?;
     text::number_to(rt, Stream::Aside, next.tape as u64)?;
     text::aside(rt, " of the tape has")?;
@@ -142,10 +147,17 @@ fn held(rt: &(impl Print + Eprint), tape: &[u8], at: usize) -> io::Result<()> {
     if tape.len() <= at {
         return text::aside(rt, " nothing");
     }
-    let size = fields::size(tape, at);
+    let size = log_fields::size(tape, at);
     let left = tape.len() - at;
-    let there = fields::least(size, left);
-    fields::bytes(rt, Stream::Aside, tape, at, 0, fields::least(there, SHOWN))?;
+    let there = log_fields::least(size, left);
+    log_fields::bytes(
+        rt,
+        Stream::Aside,
+        tape,
+        at,
+        0,
+        log_fields::least(there, SHOWN),
+    )?;
     if SHOWN < there {
         text::aside(rt, " ..")?;
     }
