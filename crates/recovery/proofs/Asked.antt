@@ -13,7 +13,6 @@ use Rattle.plan.specs.Steps.{InMv}
 use Rattle.plan.specs.Plan.{Values}
 use Rattle.plan.specs.declared.Config.{Config}
 use Rattle.plan.proofs.Six.{plan_six}
-use Rattle.laws.specs.Choice.{if◌then◌else◌}
 use Rattle.bus.specs.Transfers.{Transfer, Outcome}
 use Rattle.bus.specs.Programs.{Prog, ret, ask, bind}
 use Rattle.bus.specs.Raw.{read_bytes}
