@@ -1,6 +1,6 @@
 -- In zeros the frame is right where the whole is, and its data are the first of the whole's.
 -- Assumes nothing.
-use Rattle.std.proofs.Common.{ℕ, List, [], ◌∷◌, ◌≡◌, ◌+◌, ◌*◌, ◌/◌, ◌≤◌, Bool, true, length, take, replicate, arith, sym, ap, ◌∙◌}
+use Rattle.std.proofs.Common.{ℕ, List, [], ◌∷◌, ◌≡◌, ◌+◌, ◌*◌, ◌/◌, ◌≤◌, Bool, length, take, replicate, arith, sym, ap, ◌∙◌}
 use lib.ListN.{length-take}
 use lib.Seq.{length-take-le}
 use Rattle.frames.specs.Frames.{read_byte, right, data_of}

@@ -1,6 +1,6 @@
 -- Where log and tape go so far and the tape says that both were done, the write is done, and the read on what it left.
 -- Assumes nothing.
-use Rattle.std.proofs.Common.{ℕ, List, Bool, true, ◌≡◌, ◌+◌, ◌≤◌, length, drop, leb, arith, rules, refl, sym, ap, ◌∙◌}
+use Rattle.std.proofs.Common.{ℕ, List, true, ◌≡◌, ◌+◌, ◌≤◌, length, drop, arith, refl, sym, ap, ◌∙◌}
 use mathlib.Core.Bool.{false, and-eq-true_iff}
 use native.Mathlib.Nat.{add-zero}
 use borrow.Author.Tests.{leb-true}

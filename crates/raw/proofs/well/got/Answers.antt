@@ -1,6 +1,6 @@
 -- Where the log has room and the tape says that all was done, the read is done.
 -- Assumes nothing.
-use Rattle.std.proofs.Common.{ℕ, List, Bool, true, ◌≡◌, ◌+◌, ◌≤◌, length, drop, leb, sym, ◌∙◌}
+use Rattle.std.proofs.Common.{ℕ, ◌+◌, ◌≤◌, length, drop, sym, ◌∙◌}
 use mathlib.Core.Bool.{false, and-eq-true_iff}
 use borrow.Author.Tests.{leb-true}
 use Rattle.fields.specs.Fields.{field}

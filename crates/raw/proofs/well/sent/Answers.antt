@@ -1,6 +1,6 @@
 -- Where the log has room and the tape says that all was done, the write is done.
 -- Assumes nothing.
-use Rattle.std.proofs.Common.{ℕ, List, Bool, true, ◌≡◌, ◌+◌, ◌≤◌, length, drop, leb, arith, refl, sym, ap, ◌∙◌}
+use Rattle.std.proofs.Common.{ℕ, List, ◌≡◌, ◌+◌, ◌≤◌, length, drop, arith, refl, sym, ap, ◌∙◌}
 use mathlib.Core.Bool.{false, and-eq-true_iff}
 use native.Mathlib.Nat.{add-zero}
 use borrow.Author.Tests.{leb-true}
