@@ -1,6 +1,7 @@
 -- The first pair is tested, and then eight pairs at a time; the data of eight pairs is stored after that of the pairs before them.
 -- Assumes nothing.
-use Rattle.std.proofs.Common.{ℕ, ◌≡◌, ◌+◌, ◌-◌, ◌*◌, ◌%◌, ◌<◌, Bool, true, bit_or, ◌&&◌, List, [], ◌∷◌, length, take, drop, get_or, arith, rules, refl, sym, ap, ◌∙◌, eqb, ltb}
+use Rattle.std.proofs.Common.{ℕ, ◌≡◌, ◌+◌, ◌-◌, ◌*◌, ◌%◌, ◌<◌, Bool, true, bit_or, ◌&&◌, List, [], ◌∷◌, length, take, drop, get_or, arith}
+use Rattle.std.proofs.Common.{rules, refl, sym, ap, ◌∙◌, eqb, ltb}
 use mathlib.Core.Bool.{and-eq-true_iff}
 use borrow.Author.Tests.{eq-eqb, ne_eqb, ltb-true}
 use Rattle.check_byte.specs.CheckByte.{check_byte}

@@ -1,6 +1,7 @@
 -- Done by the short way, with check bytes and without.
 -- Assumes nothing.
-use Rattle.std.proofs.Common.{ℕ, List, Bool, [], ◌∷◌, ◌++◌, ◌≡◌, ◌+◌, ◌*◌, ◌≤◌, ◌&&◌, eqb, leb, length, get_or, take, drop, replicate, arith, rules, refl, sym, ap, ap₂, ◌∙◌}
+use Rattle.std.proofs.Common.{ℕ, List, Bool, [], ◌∷◌, ◌++◌, ◌≡◌, ◌+◌, ◌*◌, ◌≤◌, ◌&&◌, eqb, leb, length, get_or, take, drop, replicate}
+use Rattle.std.proofs.Common.{arith, rules, refl, sym, ap, ap₂, ◌∙◌}
 use mathlib.Core.Bool.{true, not, and-eq-true_iff}
 use lib.Seq.{length-take-le}
 use borrow.Author.Tests.{leb-true, eqb-false, not-true}

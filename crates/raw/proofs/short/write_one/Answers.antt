@@ -32,5 +32,5 @@ returns-then-echoed c =
     c.if-echoed.ensures in
     let within : a.reg + 1 ≤ 256 = omega arith in
     write_plain a.link a.reg bytes held b (one bytes (search rules)) (a.reg ∷ held) (sym c.is_sound-sound.ensures ∙ c.if-sound.true)
-    (omega arith) (omega arith) within {back = zero} {back' = c.echoed.new.back} (reads_plain _ _ c.if-sound-link.false c.if-sound.true) (plain_frame a.link.address _ _)
-    went refl c.echoed.auto.back c.compare.ensures c.further-then-echoed.ensures
+    (omega arith) (omega arith) within {back = zero} {back' = c.echoed.new.back} (reads_plain _ _ c.if-sound-link.false c.if-sound.true)
+    (plain_frame a.link.address _ _) went refl c.echoed.auto.back c.compare.ensures c.further-then-echoed.ensures
