@@ -36,24 +36,12 @@ returns-then-address-self c =
     (read_away a.self a.address a.reg a.n (as_cut a.cut) (rw c.is_within.ensures at c.if-address-self.true))
 
 -- ---- where the chip answers
-pub reply-requires-in_default : goal.reply-requires-in_default
-reply-requires-in_default c =
-    let a = c.args in
-    let there = read_here a.self a.address a.reg a.n (rw c.is_within.ensures at c.if-address-self.false) in
-    read_within a.self a.reg a.address a.n there
-
 pub returns-in_default : goal.returns-in_default
 returns-in_default c =
     let a = c.args in
     let there = read_here a.self a.address a.reg a.n (rw c.is_within.ensures at c.if-address-self.false) in
     c.reply-in_default.ensures _ (le_refl _)
     ∙ by_cut a.self a.tape.now a.end _ c.in_default.is (read_whole a.self a.address a.reg a.n there)
-
-pub reply-requires-then-n-k : goal.reply-requires-then-n-k
-reply-requires-then-n-k c =
-    let a = c.args in
-    let there = read_here a.self a.address a.reg a.n (rw c.is_within.ensures at c.if-address-self.false) in
-    read_within a.self a.reg a.address a.n there
 
 pub returns-then-n-k : goal.returns-then-n-k
 returns-then-n-k c =

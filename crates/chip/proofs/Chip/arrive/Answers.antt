@@ -1,15 +1,11 @@
 -- `Chip::arrive` meets its contract.
 -- Assumes nothing.
 use mathlib.Core.Path.{sym, ap, ◌∙◌}
-use lib.Bits.{and_le_l}
 use borrow.Author.Rules.{rules}
 use Rattle.chip.specs.Chip.{with_regs}
 use Rattle.chip.proofs.Steps.{arrives_status}
 use Rattle.chip.proofs.Stored.{arrives_set}
 use Rattle.chip.proofs.Chip.arrive.Goals as goal
-
-pub overflow_sub-status : goal.overflow_sub-status
-overflow_sub-status c = and_le_l _ _
 
 pub returns-then-reg-eq0 : goal.returns-then-reg-eq0
 returns-then-reg-eq0 c =

@@ -1,17 +1,12 @@
 -- `Chip::show` meets its contract. The loop's invariant: the bytes stored so far are the first of those shown.
 -- Assumes nothing.
-use Rattle.std.proofs.Common.{◌≡◌, refl, ap, ◌∙◌, List, ℕ, ◌+◌, ◌<◌, length, get_or, set, length-set, add-one, arith, rules}
-use Rattle.std.proofs.Math.Seq.{paste-zero, paste-suc, length-take-le}
+use Rattle.std.proofs.Common.{◌≡◌, ap, ◌∙◌, List, ℕ, ◌+◌, ◌<◌, length, get_or, set, length-set, add-one, arith, rules}
+use Rattle.std.proofs.Math.Seq.{paste-suc, length-take-le}
 use Rattle.frames.specs.Put.{put}
 use Rattle.chip.specs.Chip.{shows}
 use Rattle.chip.proofs.Shows.{length_shows}
 use Rattle.chip.proofs.Steps.{begun_fewer}
 use Rattle.chip.proofs.Chip.show.Goals as goal
-
-pub loop-i-init : goal.loop-i-init
-loop-i-init c =
-    let a = c.args in
-    (λ m h. paste-zero a.tape.now a.at (shows a.self a.reg m), search rules, refl)
 
 pub shown-requires : goal.shown-requires
 shown-requires c =

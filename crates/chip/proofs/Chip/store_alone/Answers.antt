@@ -1,13 +1,9 @@
 -- `Chip::store_alone` meets its contract. The loop's invariant: with the bytes that are left stored, the chip is as it has to be.
 -- Assumes nothing.
 use Rattle.std.proofs.Common.{◌+◌, sym, ap, ◌∙◌, rules}
-use Rattle.std.proofs.Math.Nat.{add-zero}
 use Rattle.chip.specs.Chip.{with_regs}
 use Rattle.chip.proofs.Steps.{stores_one, stores_end}
 use Rattle.chip.proofs.Chip.store_alone.Goals as goal
-
-pub loop-i-init : goal.loop-i-init
-loop-i-init c = (rw add-zero, search rules, search rules)
 
 pub loop-i-preserved : goal.loop-i-preserved
 loop-i-preserved c =

@@ -1,7 +1,7 @@
 -- `Chip::write` meets its contract.
 -- Assumes nothing.
 use Rattle.std.proofs.Common.{◌≡◌, sym, ap, ◌∙◌, true, List, ℕ, rules}
-use Rattle.std.proofs.Math.Seq.{take_all, length-take-le}
+use Rattle.std.proofs.Math.Seq.{take_all}
 use Rattle.bus.specs.Transfers.{write}
 use Rattle.chip.specs.Answering.{as_cut}
 use Rattle.chip.specs.Chip.{answers, written, carried, respond_cut}
@@ -24,17 +24,11 @@ returns-then-not-is_answered c =
     let a = c.args in
     device_off (as_cut a.cut) a.self _ (sym c.is_answered.ensures ∙ c.if-not-is_answered.true)
 
-pub take_in-requires : goal.take_in-requires
-take_in-requires c = sym c.is_answered.ensures ∙ c.if-not-is_answered.false
-
 pub returns-in_default : goal.returns-in_default
 unfolding carried
 returns-in_default c =
     let a = c.args in
     by_cut a.self a.bytes.now (sym c.is_answered.ensures ∙ c.if-not-is_answered.false) c.in_default.is c.take_in.ensures
-
-pub take_in-requires-then-bytes-n : goal.take_in-requires-then-bytes-n
-take_in-requires-then-bytes-n c = sym c.is_answered.ensures ∙ c.if-not-is_answered.false
 
 pub returns-then-bytes-n : goal.returns-then-bytes-n
 unfolding carried
@@ -42,9 +36,6 @@ returns-then-bytes-n c =
     let a = c.args in
     by_cut a.self a.bytes.now (sym c.is_answered.ensures ∙ c.if-not-is_answered.false) c.in-After.is
     (c.take_in-then-bytes-n.ensures ∙ ap (written a.self) (sym (take_all c.in-After.n a.bytes.now (search rules))))
-
-pub slice_bounds-take_in-end : goal.slice_bounds-take_in-end
-slice_bounds-take_in-end c = sym (length-take-le c.in-After.n c.args.bytes.now (search rules))
 
 pub take_in-requires-2 : goal.take_in-requires-2
 take_in-requires-2 c =
