@@ -9,7 +9,7 @@ use native.Mathlib.Omega.{arith}
 use lib.Dec.{eqb}
 use lib.ListN.{length, get_or}
 use borrow.Author.Tests.{eq-eqb}
-use Rattle.laws.specs.Choice.{if◌then◌else◌}
+use Rattle.laws.specs.Choice.{when◌then◌else◌}
 use Rattle.refusals.specs.Refusal.{Refusal, Answer, value}
 use Rattle.adc.specs.Registers.{calibration}
 use Rattle.adc.specs.declared.transfer.AdcTransferFunction.{AdcTransferFunction}
@@ -43,7 +43,7 @@ module _ (link : Link) where
   pub none_in : (h : List Made) → read_from link h 0x59 ≡ [] → calibration_in link h ≡ none
   none_in h e = rw e (by (eqb (length (read_from link h 0x50)) 2))
     where
-      by : (t : Bool) → (if t && false then some (calibration (get_or (read_from link h 0x50) 0 0) (get_or (read_from link h 0x50) 1 0) 0) else none) ≡ none
+      by : (t : Bool) → (when t && false then some (calibration (get_or (read_from link h 0x50) 0 0) (get_or (read_from link h 0x50) 1 0) 0) else none) ≡ none
       by true = refl
       by false = refl
 

@@ -2,7 +2,7 @@
 -- Assumes nothing.
 use Rattle.std.specs.Prelude.{ℕ, ◌+◌, ◌≡◌, ◌&&◌, List, eqb, length, get_or}
 use Rattle.std.proofs.Math.Option.{Option, none, some}
-use Rattle.laws.specs.Choice.{if◌then◌else◌}
+use Rattle.laws.specs.Choice.{when◌then◌else◌}
 use Rattle.refusals.specs.Refusal.{Answer}
 use Rattle.adc.specs.Registers.{calibration}
 use Rattle.adc.specs.declared.transfer.AdcTransferFunction.{AdcTransferFunction}
@@ -18,7 +18,7 @@ module _ (link : Link) (seen : List Made) where
   -- none where not both were read
   abbrev pub calibration_in : Option AdcTransferFunction
   calibration_in =
-      if eqb (length (read_from 0x50)) 2 && eqb (length (read_from 0x59)) 1
+      when eqb (length (read_from 0x50)) 2 && eqb (length (read_from 0x59)) 1
       then some (calibration (get_or (read_from 0x50) 0 0) (get_or (read_from 0x50) 1 0) (get_or (read_from 0x59) 0 0))
       else none
 

@@ -1,7 +1,7 @@
 -- What the bench's C gives a command in numbers, and is told of an answer in numbers.
 -- Assumes nothing.
 use Rattle.std.specs.Prelude.{ℕ, Bool, eqb}
-use Rattle.laws.specs.Choice.{if◌then◌else◌}
+use Rattle.laws.specs.Choice.{when◌then◌else◌}
 use Rattle.units.specs.declared.flags.Stat.{Stat}
 use Rattle.units.specs.declared.flags.SysStat.{SysStat}
 use Rattle.commands.specs.declared.control.TemperatureSource.{TemperatureSource}
@@ -14,18 +14,18 @@ abbrev pub flags_by : ℕ → SysStat
 flags_by bits = record { bits = bits }
 
 abbrev pub source_by : Bool → TemperatureSource
-source_by thermistor = if thermistor then T.ExternalThermistor else T.InternalDie
+source_by thermistor = when thermistor then T.ExternalThermistor else T.InternalDie
 
 -- 0 off, 1 once, any other always
 abbrev pub mode_by : ℕ → CoulombCounterMode
-mode_by code = if eqb code 0 then M.Disabled else if eqb code 1 then M.OneShot else M.Continuous
+mode_by code = when eqb code 0 then M.Disabled else when eqb code 1 then M.OneShot else M.Continuous
 
 -- ---- told
 abbrev pub bits_of : Stat → ℕ
 bits_of stat = stat.bits
 
 abbrev pub bit_of : Bool → ℕ
-bit_of b = if b then 1 else 0
+bit_of b = when b then 1 else 0
 
 abbrev pub code_of : TemperatureSource → ℕ
 code_of T.InternalDie = 0

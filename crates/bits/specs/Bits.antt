@@ -4,7 +4,7 @@ use Rattle.std.specs.Prelude.{ℕ, ◌-◌, Bool, not, eqb}
 use Rattle.std.specs.Bool.{beq}
 use Rattle.std.proofs.Math.Option.{Option, none, some}
 use Rattle.std.specs.Int.Bits.{bit_and, bit_or}
-use Rattle.laws.specs.Choice.{if◌then◌else◌}
+use Rattle.laws.specs.Choice.{when◌then◌else◌}
 
 -- one of them is set
 abbrev pub holds : ℕ → ℕ → Bool
@@ -16,11 +16,11 @@ cleared mask byte = bit_and byte (255 - mask)
 
 -- all of them, or none
 abbrev pub placed : ℕ → Bool → ℕ
-placed mask on = if on then mask else 0
+placed mask on = when on then mask else 0
 
 -- the byte with all of them, or without
 abbrev pub switched : ℕ → Bool → ℕ → ℕ
-switched mask on byte = if on then bit_or byte mask else cleared mask byte
+switched mask on byte = when on then bit_or byte mask else cleared mask byte
 
 -- the bit is as asked already
 abbrev pub stands : ℕ → Bool → ℕ → Bool
@@ -32,7 +32,7 @@ putting mask bits byte = some (bit_or (cleared mask byte) bits)
 
 -- nothing where the bit stands so already
 unfoldable pub switching : ℕ → Bool → ℕ → Option ℕ
-switching mask on byte = if stands mask on byte then none else some (switched mask on byte)
+switching mask on byte = when stands mask on byte then none else some (switched mask on byte)
 
 -- ---- 04, bit 3: cleared, and then tested
 abbrev pub thermistor : ℕ → Bool

@@ -2,7 +2,7 @@
 -- Assumes nothing.
 use mathlib.Core.Path.{◌≡◌, refl}
 use mathlib.Core.Bool.{Bool, true, false, not}
-use Rattle.laws.specs.Choice.{if◌then◌else◌}
+use Rattle.laws.specs.Choice.{when◌then◌else◌}
 use Rattle.bus.specs.Transfers.{Bus}
 use Rattle.bus.specs.Programs.{Prog, ret, on_tape}
 use Rattle.bus.proofs.Always.{always}
@@ -24,6 +24,6 @@ pub always_soundly : {A : Type 0} (P : A → Type 0) (d : BQ769x0) (nine : A) (p
 unfolding soundly always
 always_soundly P d nine p off on = by_test (is_sound d) refl
   where
-    by_test : (t : Bool) → is_sound d ≡ t → always P (if not t then ret nine else p)
+    by_test : (t : Bool) → is_sound d ≡ t → always P (when not t then ret nine else p)
     by_test true e = on e
     by_test false e = off

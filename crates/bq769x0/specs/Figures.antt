@@ -3,7 +3,7 @@
 use Rattle.std.specs.Prelude.{ℕ, ◌≡◌, ℤ, pos, ◌+ℤ◌, take}
 use mathlib.Core.List.{List, [], ◌∷◌, map, foldl}
 use Rattle.std.specs.Int.Signed.{lt_z}
-use Rattle.laws.specs.Choice.{if◌then◌else◌}
+use Rattle.laws.specs.Choice.{when◌then◌else◌}
 use Rattle.units.specs.declared.MilliVolts.{MilliVolts}
 use Rattle.bq769x0.specs.declared.BQ769x0.{BQ769x0}
 use Rattle.bq769x0.specs.declared.Spread.{Spread}
@@ -17,10 +17,10 @@ first_cells n cells = take n (map volts cells)
 
 -- of two numbers the lower, and the higher
 abbrev pub lower : ℤ → ℤ → ℤ
-lower a b = if lt_z b a then b else a
+lower a b = when lt_z b a then b else a
 
 abbrev pub higher : ℤ → ℤ → ℤ
-higher a b = if lt_z a b then b else a
+higher a b = when lt_z a b then b else a
 
 -- all of a list by what is done with two: its sum, its lowest, its highest; 0 of none
 abbrev pub all_by : (ℤ → ℤ → ℤ) → List ℤ → ℤ

@@ -4,7 +4,7 @@ use Rattle.std.specs.Prelude.{ℕ, Bool, true, false, not, ◌&&◌, ◌||◌, �
 use Rattle.refusals.specs.Refusal.{Refusal, Answer, value, refused, refused_if, as_refusal}
 use Rattle.sizes.specs.Sizes.{within}
 use Rattle.wiring.specs.Packs.{of_pack}
-use Rattle.laws.specs.Choice.{if◌then◌else◌}
+use Rattle.laws.specs.Choice.{when◌then◌else◌}
 use Rattle.bus.specs.Raw.{Done}
 use Rattle.bus.specs.declared.link.Link.{Link}
 use Rattle.adc.specs.declared.transfer.AdcTransferFunction.{AdcTransferFunction}
@@ -112,7 +112,7 @@ calibrated_right d = within 365 396 d.adc.gain || eqb d.adc.gain 0 && is_zero d.
 -- initialised just when the shunt is not 0, and the gain then not 0 either
 abbrev pub marked_right : BQ769x0 → Bool
 marked_right d =
-    if d.init_complete then not (eqb d.shunt.0 0) && not (eqb d.adc.gain 0)
+    when d.init_complete then not (eqb d.shunt.0 0) && not (eqb d.adc.gain 0)
     else eqb d.shunt.0 0
 
 pub record Sound (d : BQ769x0) : Type 0 where

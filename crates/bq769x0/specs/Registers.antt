@@ -2,7 +2,7 @@
 -- Assumes nothing.
 use Rattle.std.specs.Prelude.{ℕ, not, List}
 use Rattle.refusals.specs.Refusal.{Answer}
-use Rattle.laws.specs.Choice.{if◌then◌else◌}
+use Rattle.laws.specs.Choice.{when◌then◌else◌}
 use Rattle.bus.specs.Programs.{Prog, ret}
 use Rattle.bus.specs.Raw.{Done, Read, gives, refuses}
 use Rattle.bus.specs.Raw as link
@@ -11,7 +11,7 @@ use Rattle.bq769x0.specs.declared.BQ769x0.{BQ769x0}
 
 -- a call on a record: 9 where it is not sound
 unfoldable pub soundly : {A : Type 0} → BQ769x0 → A → Prog A → Prog A
-soundly d nine p = if not (is_sound d) then ret nine else p
+soundly d nine p = when not (is_sound d) then ret nine else p
 
 unfoldable pub read_raw : BQ769x0 → ℕ → List ℕ → Prog Read
 read_raw d reg buf = soundly d (gives (refuses 9) buf) (link.read_raw d.link reg buf)

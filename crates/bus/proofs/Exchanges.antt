@@ -11,7 +11,7 @@ use lib.Dec.{eqb, leb, ltb}
 use lib.IntN.{pos}
 use lib.ListN.{length, replicate, length-replicate}
 use borrow.Author.Tests.{eq-eqb, eqb-true, leb-true, le-leb, lt-leb, not-true}
-use Rattle.laws.specs.Choice.{if◌then◌else◌}
+use Rattle.laws.specs.Choice.{when◌then◌else◌}
 use Rattle.refusals.specs.Refusal.{Refusal, Answer, value, refused, refusal_in, answering, no}
 use Rattle.refusals.proofs.Values.{refused_not}
 use Rattle.frames.specs.Frames.{write_byte, read_byte, right, data_of, framed, read_frame, write_frame}
@@ -67,11 +67,11 @@ module _ (s : Link) (reg : ℕ) (buf : List ℕ) (some : 1 ≤ length buf) where
   Form check p = ReadForm check s.address reg buf p
 
   form_if : (check t : Bool) (p q : Prog Read) → (t ≡ true → Form check p) → (t ≡ false → Form check q)
-      → Form check (if t then p else q)
+      → Form check (when t then p else q)
   form_if check true p q h k = h refl
   form_if check false p q h k = k refl
 
-  by_check : (check : Bool) → Form check (if check then checked_read s reg buf else plain_read s reg buf)
+  by_check : (check : Bool) → Form check (when check then checked_read s reg buf else plain_read s reg buf)
   unfolding checked_read plain_read ask_frame
   by_check true =
       form_if true (ltb (2 * s.x) (length buf)) _ _ (λ e. turned 3 refl)
@@ -105,7 +105,7 @@ fault_made : (check : Bool) (address reg n : ℕ) (bytes : List ℕ) → Silent 
 unfolding registers_written registers_read sent_by got_by
 fault_made check address reg n bytes = record { unwritten = refl; unread = λ a r. refl }
 
-either_none : (t : Bool) → ◌≡◌ {A = List ℕ} (if t then [] else []) []
+either_none : (t : Bool) → ◌≡◌ {A = List ℕ} (when t then [] else []) []
 either_none true = refl
 either_none false = refl
 
@@ -123,12 +123,12 @@ module _ (address reg : ℕ) (buf : List ℕ) where
 
   -- an answer by a test, refused with one number or with another
   by_test : (a b : Refusal) (t : Bool) {r : Refusal} → OfBus a → OfBus b
-      → (if t then gives (refused a) buf else gives (refused b) buf).answer ≡ refused r → OfBus r
+      → (when t then gives (refused a) buf else gives (refused b) buf).answer ≡ refused r → OfBus r
   by_test a b true p q e = subst OfBus (same_refusal e) p
   by_test a b false p q e = subst OfBus (same_refusal e) q
 
   wrong_only : (bytes : List ℕ) (t : Bool) → right (read_byte address ∷ []) bytes ≡ t → {r : Refusal}
-      → (if t then gives (value tt) (put buf 0 (data_of bytes)) else gives (refuses 1) buf).answer ≡ refused r
+      → (when t then gives (value tt) (put buf 0 (data_of bytes)) else gives (refuses 1) buf).answer ≡ refused r
       → Silent true ((asked true, done bytes) ∷ []) × OfBus r
   wrong_only bytes true e q = refused_not (sym q)
   wrong_only bytes false e q = (wrong_made address reg _ bytes e, subst OfBus (same_refusal q) refl)
@@ -201,7 +201,7 @@ pub passed : (address another reg other : ℕ) (bytes : List ℕ) (more : List A
     → first_of another other (access address reg bytes ∷ more) ≡ first_of another other more
 passed address another reg other bytes more e = rw e (by (eqb address another))
   where
-    by : (t : Bool) → (if t && false then bytes else first_of another other more) ≡ first_of another other more
+    by : (t : Bool) → (when t && false then bytes else first_of another other more) ≡ first_of another other more
     by true = refl
     by false = refl
 
@@ -254,7 +254,7 @@ module _ (s : Link) (reg : ℕ) (bytes : List ℕ) where
 
   module _ (some : 1 ≤ length bytes) where
     send_if : (t : Bool) (p q : Prog (Answer Done)) → (t ≡ true → SendForm s reg bytes p) → (t ≡ false → SendForm s reg bytes q)
-        → SendForm s reg bytes (if t then p else q)
+        → SendForm s reg bytes (when t then p else q)
     send_if true p q h k = h refl
     send_if false p q h k = k refl
 
@@ -286,7 +286,7 @@ module _ (s : Link) (reg : ℕ) (bytes : List ℕ) where
       compared_seen from (x ∷ here) (y ∷ back) = by (eqb x y) (compared_seen (suc from) here back)
         where
           by : (t : Bool) → WriteSeen (compared (suc from) here back) (h ++ g)
-              → WriteSeen (if t then compared (suc from) here back else refused (no 5 (pos from ∷ []))) (h ++ g)
+              → WriteSeen (when t then compared (suc from) here back else refused (no 5 (pos from ∷ []))) (h ++ g)
           by true q = q
           by false q = (inr then_writes, then_elsewhere, refl)
 

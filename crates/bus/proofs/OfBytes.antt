@@ -8,7 +8,7 @@ use Prim.Native.Nat.{ℕ, zero, suc}
 use lib.ListN.{length, take, drop}
 use lib.Dec.{eqb, leb}
 use Rattle.check_byte.specs.CheckByte.{Bytes}
-use Rattle.laws.specs.Choice.{if◌then◌else◌}
+use Rattle.laws.specs.Choice.{when◌then◌else◌}
 use Rattle.numbers.specs.Numbers.{word}
 use Rattle.refusals.specs.Refusal.{no}
 use Rattle.fields.specs.Fields.{unfield}
@@ -38,13 +38,13 @@ drop_bytes zero l h = h
 drop_bytes (suc n) [] h = tt
 drop_bytes (suc n) (x ∷ l) h = drop_bytes n l h.1
 
-by_tests : (v : List ℕ) (a b : Bool) → Bytes v → OfBytes (if a then done v else if b then fault v else stopped (no 15 []))
+by_tests : (v : List ℕ) (a b : Bool) → Bytes v → OfBytes (when a then done v else when b then fault v else stopped (no 15 []))
 by_tests v true b h = h
 by_tests v false true h = h
 by_tests v false false h = tt
 
 by_length : (n tag size : ℕ) (l : List ℕ) (t : Bool) → Bytes l
-    → OfBytes (untape n (if t then some (record { tag = tag; value = take size l; rest = drop size l }) else none))
+    → OfBytes (untape n (when t then some (record { tag = tag; value = take size l; rest = drop size l }) else none))
 unfolding untape
 by_length n tag size l true h =
     by_tests (take size l) (eqb tag 0x01 && eqb (length (take size l)) n) (eqb tag 0x02 && leb (length (take size l)) n) (take_bytes size l h)

@@ -16,7 +16,7 @@ use mir.Facts.{or_yes}
 use Rattle.laws.proofs.Tests.{both_right}
 use borrow.Author.Tests.{lt-ltb, le-ltb, eq-eqb, ne_eqb, eqb-true, eqb-false, ltb-false}
 use Rattle.refusals.specs.Refusal.{Refusal, Answer, value, refused, no}
-use Rattle.laws.specs.Choice.{if◌then◌else◌}
+use Rattle.laws.specs.Choice.{when◌then◌else◌}
 use Rattle.bus.specs.Transfers.{Bus, done}
 use Rattle.bus.specs.Programs.{ret, Ran, on_tape}
 use Rattle.bus.specs.Raw.{Done, sound, refuses, gives}
@@ -181,10 +181,10 @@ sent_within s reg bytes b b' e some =
 
     by_tests : (u l z o : Bool) → ltb 8 n ≡ l → eqb n 0 ≡ z → ltb 256 (reg + n) ≡ o
         → value tt ≡ (on_tape (
-        if u then ret (refuses 9)
-        else if l then ret (refuses 3)
-        else if z then ret (value tt)
-        else if o then ret (refuses 14)
+        when u then ret (refuses 9)
+        else when l then ret (refuses 3)
+        else when z then ret (value tt)
+        else when o then ret (refuses 14)
         else ask_write s reg bytes
         ) b).answer
         → (n ≤ 8) × (reg + n ≤ 256)

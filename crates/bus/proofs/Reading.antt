@@ -7,7 +7,7 @@ use mathlib.Core.List.{List, [], ◌∷◌}
 use native.Mathlib.Omega.{arith}
 use lib.ListN.{length, replicate, length-replicate}
 use borrow.Author.Tests.{le-ltb}
-use Rattle.laws.specs.Choice.{if◌then◌else◌}
+use Rattle.laws.specs.Choice.{when◌then◌else◌}
 use Rattle.refusals.specs.Refusal.{value}
 use Rattle.refusals.proofs.Values.{refused_not}
 use Rattle.frames.specs.Frames.{read_byte, checked, right, data_of, read_frame, framed}
@@ -76,9 +76,9 @@ read_by false address buf o = plainly buf o
 -- where a test holds the read is refused, and so it does not hold
 by_frame : (address : ℕ) (buf frame : List ℕ) → length frame ≡ 2 * length buf
     → (t : Bool) → right (read_byte address ∷ []) frame ≡ t
-    → (if t then gives (value tt) (put buf 0 (data_of frame)) else gives (refuses 1) buf).answer ≡ value tt
+    → (when t then gives (value tt) (put buf 0 (data_of frame)) else gives (refuses 1) buf).answer ≡ value tt
     → done frame ≡ done (read_frame true address
-    (if t then gives (value tt) (put buf 0 (data_of frame)) else gives (refuses 1) buf).bytes)
+    (when t then gives (value tt) (put buf 0 (data_of frame)) else gives (refuses 1) buf).bytes)
 unfolding read_frame framed
 by_frame address buf frame size true e q =
     ap done
@@ -87,7 +87,7 @@ by_frame address buf frame size true e q =
 by_frame address buf frame size false e q = refused_not q
 
 never_both : (t : Bool) (n : ℕ) (buf : List ℕ) {X : Type 0}
-    → (if t then gives (refuses n) buf else gives (refuses 1) buf).answer ≡ value tt → X
+    → (when t then gives (refuses n) buf else gives (refuses 1) buf).answer ≡ value tt → X
 never_both true n buf e = refused_not e
 never_both false n buf e = refused_not e
 

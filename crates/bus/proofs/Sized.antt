@@ -15,7 +15,7 @@ use Rattle.frames.specs.Frames.{read_byte, right, data_of}
 use Rattle.frames.specs.Put.{put}
 use Rattle.frames.proofs.Checked.{length_data}
 use Rattle.frames.proofs.Put.{length_put}
-use Rattle.laws.specs.Choice.{if◌then◌else◌}
+use Rattle.laws.specs.Choice.{when◌then◌else◌}
 use Rattle.fields.specs.Fields.{Field, unfield}
 use Rattle.bus.specs.Transfers.{Transfer, read, Outcome, done, fault, stopped, Bus}
 use Rattle.bus.specs.Transfers.{wanted, untape, says, outcome}
@@ -34,7 +34,7 @@ Sized n (stopped r) = leb 15 r.number && leb r.number 17 ≡ true
 
 -- ---- the tape
 by_tag : (n : ℕ) (v : List ℕ) (a b : Bool) → (T a → length v ≡ n) → (T b → length v ≤ n)
-    → Sized n (if a then done v else if b then fault v else stopped (no 15 []))
+    → Sized n (when a then done v else when b then fault v else stopped (no 15 []))
 by_tag n v true b whole part = whole tt
 by_tag n v false true whole part = part tt
 by_tag n v false false whole part = refl
@@ -64,7 +64,7 @@ plain_size buf (fault bytes) h = omega (arith, length_put buf 0 bytes (omega ari
 plain_size buf (stopped r) h = refl
 
 where_right_size : (buf : List ℕ) (ok : Bool) (r : Read) → length r.bytes ≡ length buf
-    → length (if ok then r else gives (refuses 1) buf).bytes ≡ length buf
+    → length (when ok then r else gives (refuses 1) buf).bytes ≡ length buf
 where_right_size buf true r h = h
 where_right_size buf false r h = refl
 
@@ -88,7 +88,7 @@ module _ (s : Link) (reg : ℕ) (buf : List ℕ) (b : Bus) where
   Same : Prog Read → Type 0
   Same p = length (on_tape p b).answer.bytes ≡ length buf
 
-  either : (t : Bool) (p q : Prog Read) → Same p → Same q → Same (if t then p else q)
+  either : (t : Bool) (p q : Prog Read) → Same p → Same q → Same (when t then p else q)
   either true p q h k = h
   either false p q h k = k
 

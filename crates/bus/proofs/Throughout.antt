@@ -4,7 +4,7 @@ use mathlib.Core.Path.{◌≡◌, refl, sym, subst}
 use mathlib.Core.Bool.{Bool, true, false}
 use mathlib.Core.List.{List, [], ◌∷◌, ◌++◌, append-nil}
 use Rattle.refusals.specs.Refusal.{Refusal, Answer, value, refused}
-use Rattle.laws.specs.Choice.{if◌then◌else◌}
+use Rattle.laws.specs.Choice.{when◌then◌else◌}
 use Rattle.bus.specs.Transfers.{Transfer, Outcome, done, fault, stopped, Bus, wanted, outcome, after}
 use Rattle.bus.specs.Programs.{Prog, ret, ask, on_tape, bind, proceed, ◌or_leave◌, ◌>>=◌}
 use Rattle.bus.specs.Shown.{Made}
@@ -78,6 +78,6 @@ module _ {A B : Type 0} where
   throughout_pure P (refused r) leave f off on = off r refl
 
 pub throughout_if : {A : Type 0} (P : A → List Made → Type 0) (t : Bool) (p q : Prog A)
-    → (t ≡ true → throughout P p) → (t ≡ false → throughout P q) → throughout P (if t then p else q)
+    → (t ≡ true → throughout P p) → (t ≡ false → throughout P q) → throughout P (when t then p else q)
 throughout_if P true p q h k = h refl
 throughout_if P false p q h k = k refl

@@ -4,16 +4,16 @@
 use Rattle.std.specs.Prelude.{ℕ, zero, suc, ◌≤◌, ◌<◌, ◌≡◌, ◌&&◌, List, [], ◌∷◌, length, drop, get_or, leb, eqb}
 use Rattle.std.proofs.Math.Option.{Option, none, some, bind, map}
 use Rattle.numbers.specs.Numbers.{word}
-use Rattle.laws.specs.Choice.{if◌then◌else◌}
+use Rattle.laws.specs.Choice.{when◌then◌else◌}
 use Rattle.fields.specs.Fields.{Field, unfield}
 use Rattle.bus.specs.Transfers.{Transfer, write, read, Outcome, done, fault, stopped}
 
 unfoldable pub unlog : Field → Option Transfer
 unlog f =
     let at : ℕ → ℕ = λ i. get_or f.value i 0 in
-    if eqb f.tag 0x11 && leb 1 (length f.value)
+    when eqb f.tag 0x11 && leb 1 (length f.value)
     then some (write (at 0) (drop 1 f.value))
-    else if eqb f.tag 0x12 && eqb (length f.value) 4
+    else when eqb f.tag 0x12 && eqb (length f.value) 4
     then some (read (at 0) (at 1) (word (at 2) (at 3)))
     else none
 

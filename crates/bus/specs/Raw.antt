@@ -5,7 +5,7 @@ use Rattle.refusals.specs.Refusal.{no, Answer, value, refused, answering, as_ref
 use Rattle.sizes.specs.Sizes.{is_size}
 use Rattle.frames.specs.Frames.{read_byte, right, data_of, write_frame}
 use Rattle.frames.specs.Put.{put}
-use Rattle.laws.specs.Choice.{if◌then◌else◌}
+use Rattle.laws.specs.Choice.{when◌then◌else◌}
 use Rattle.bus.specs.Transfers.{read, write, Outcome, done, fault, stopped}
 use Rattle.bus.specs.Programs.{Prog, ret, ask, bind, ◌or_leave◌, ◌>>=◌}
 use Rattle.bus.specs.declared.link.Link.{Link}
@@ -46,7 +46,7 @@ unfoldable pub received : ℕ → List ℕ → List ℕ
 received n bytes = put (replicate n 0) 0 bytes
 
 unfoldable pub where_right : ℕ → List ℕ → List ℕ → Read → Read
-where_right address buf frame r = if right (read_byte address ∷ []) frame then r else gives (refuses 1) buf
+where_right address buf frame r = when right (read_byte address ∷ []) frame then r else gives (refuses 1) buf
 
 -- a wrong check byte is 1, and is looked for before the fault; a refused read leaves the caller's bytes as they were
 unfoldable pub checkedly : ℕ → List ℕ → Outcome → Read
@@ -58,7 +58,7 @@ checkedly address buf (stopped r) = gives (refused r) buf
 
 unfoldable pub plain_read : Link → ℕ → List ℕ → Prog Read
 plain_read s reg buf =
-    if ltb 256 (reg + length buf) then ret (gives (refuses 14) buf)
+    when ltb 256 (reg + length buf) then ret (gives (refuses 14) buf)
     else ask (read s.address reg (length buf)) λ o. ret (plainly buf o)
 
 unfoldable pub ask_frame : ℕ → ℕ → List ℕ → Prog Read
@@ -66,15 +66,15 @@ ask_frame address reg buf = ask (read address reg (2 * length buf)) λ o. ret (c
 
 unfoldable pub checked_read : Link → ℕ → List ℕ → Prog Read
 checked_read s reg buf =
-    if ltb (2 * s.x) (length buf) then ret (gives (refuses 3) buf)
-    else if eqb (length buf) 0 then ret (gives (value tt) buf)
-    else if ltb 256 (reg + length buf) then ret (gives (refuses 14) buf)
+    when ltb (2 * s.x) (length buf) then ret (gives (refuses 3) buf)
+    else when eqb (length buf) 0 then ret (gives (value tt) buf)
+    else when ltb 256 (reg + length buf) then ret (gives (refuses 14) buf)
     else ask_frame s.address reg buf
 
 unfoldable pub read_raw : Link → ℕ → List ℕ → Prog Read
 read_raw s reg buf =
-    if not (sound s) then ret (gives (refuses 9) buf)
-    else if s.check then checked_read s reg buf
+    when not (sound s) then ret (gives (refuses 9) buf)
+    else when s.check then checked_read s reg buf
     else plain_read s reg buf
 
 -- a read of n bytes by a caller that wants them or a refusal
@@ -93,17 +93,17 @@ ask_write s reg bytes = ask (write s.address (write_frame s.check s.address reg 
 -- one write that is not read back
 unfoldable pub send : Link → ℕ → List ℕ → Prog (Answer Done)
 send s reg bytes =
-    if not (sound s) then ret (refuses 9)
-    else if ltb 8 (length bytes) then ret (refuses 3)
-    else if eqb (length bytes) 0 then ret (value tt)
-    else if ltb 256 (reg + length bytes) then ret (refuses 14)
+    when not (sound s) then ret (refuses 9)
+    else when ltb 8 (length bytes) then ret (refuses 3)
+    else when eqb (length bytes) 0 then ret (value tt)
+    else when ltb 256 (reg + length bytes) then ret (refuses 14)
     else ask_write s reg bytes
 
 -- 5 at the first register that reads back otherwise
 unfoldable pub compared : ℕ → List ℕ → List ℕ → Answer Done
 compared reg [] back = value tt
 compared reg (x ∷ bytes) [] = value tt
-compared reg (x ∷ bytes) (y ∷ back) = if eqb x y then compared (suc reg) bytes back else refused (no 5 (pos reg ∷ []))
+compared reg (x ∷ bytes) (y ∷ back) = when eqb x y then compared (suc reg) bytes back else refused (no 5 (pos reg ∷ []))
 
 unfoldable pub verified : ℕ → List ℕ → Outcome → Answer Done
 verified reg bytes (done back) = compared reg bytes back
@@ -117,5 +117,5 @@ ask_back address reg bytes = ask (read address reg (length bytes)) λ o. ret (ve
 unfoldable pub write_raw : Link → ℕ → List ℕ → Prog (Answer Done)
 write_raw s reg bytes = do
   _ ← send s reg bytes or_leave refused
-  if s.check || eqb (length bytes) 0 then ret (value tt)
+  when s.check || eqb (length bytes) 0 then ret (value tt)
       else ask_back s.address reg bytes

@@ -3,7 +3,7 @@
 -- Assumes nothing.
 use Rattle.std.specs.Prelude.{ℕ, Bool, true, false, ◌&&◌, List, [], ◌∷◌, ◌++◌, length, take, drop, eqb}
 use Rattle.std.proofs.Math.Option.{Option, map}
-use Rattle.laws.specs.Choice.{if◌then◌else◌}
+use Rattle.laws.specs.Choice.{when◌then◌else◌}
 use Rattle.frames.specs.Frames.{write_byte, read_byte, right, data_of}
 use Rattle.bus.specs.Transfers.{Transfer, write, read, Outcome, done, fault, stopped, log_field, tape_field, wanted, says}
 use Rattle.bus.specs.Decoders.{transfers_in}
@@ -46,7 +46,7 @@ access address register bytes = record { address = address; register = register;
 -- the data of bytes that came behind those before: with checks of a right frame, and none of any other
 unfoldable pub data_in : Bool → List ℕ → List ℕ → List ℕ
 data_in false before bytes = bytes
-data_in true before bytes = if right before bytes then data_of bytes else []
+data_in true before bytes = when right before bytes then data_of bytes else []
 
 module _ (check : Bool) where
   unfoldable pub got_by : Transfer → Outcome → List Access
@@ -74,4 +74,4 @@ module _ (check : Bool) where
 abbrev pub first_of : ℕ → ℕ → List Access → List ℕ
 first_of address register [] = []
 first_of address register (b ∷ more) =
-    if eqb b.address address && eqb b.register register then b.bytes else first_of address register more
+    when eqb b.address address && eqb b.register register then b.bytes else first_of address register more

@@ -4,7 +4,7 @@ use Rattle.std.specs.Prelude.{ℕ, ◌+◌, ◌/◌, ◌%◌, ◌&&◌, List, []
 use Rattle.std.proofs.Math.Option.{Option, none, some}
 use Rattle.refusals.specs.Refusal.{Refusal, no}
 use Rattle.frames.specs.Put.{put}
-use Rattle.laws.specs.Choice.{if◌then◌else◌}
+use Rattle.laws.specs.Choice.{when◌then◌else◌}
 use Rattle.fields.specs.Fields.{field, Field, unfield}
 use Rattle.bus.specs.declared.Cursor.{Cursor}
 
@@ -41,9 +41,9 @@ wanted (read address reg count) = count
 unfoldable pub untape : ℕ → Option Field → Outcome
 untape n none = stopped (no 15 [])
 untape n (some f) =
-    if eqb f.tag 0x01 && eqb (length f.value) n
+    when eqb f.tag 0x01 && eqb (length f.value) n
     then done f.value
-    else if eqb f.tag 0x02 && leb (length f.value) n
+    else when eqb f.tag 0x02 && leb (length f.value) n
     then fault f.value
     else stopped (no 15 [])
 
@@ -82,7 +82,7 @@ after t (stopped r) b = b
 -- 17 where a log field of `need` bytes does not fit; then as the tape says
 unfoldable pub answered : ℕ → ℕ → ℕ → List ℕ → Cursor → Outcome
 answered want need size tape at =
-    if leb (at.log + need) size then says want (drop at.tape tape) else stopped (no 17 [])
+    when leb (at.log + need) size then says want (drop at.tape tape) else stopped (no 17 [])
 
 unfoldable pub outcome : Transfer → Bus → Outcome
 outcome t b = answered (wanted t) (length (log_field t)) (length b.log) b.tape b.at

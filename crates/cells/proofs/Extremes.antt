@@ -11,7 +11,7 @@ use lib.Dec.{T, leb→le, le→leb, ltb→lt}
 use lib.IntN.{ℤ, pos, negsuc}
 use lib.ListN.{length, get_or}
 use lib.Signed.{le_z, lt_z, ◌≤ℤ◌, ≤ℤ_refl, le_z_yes, lt_z_no}
-use Rattle.laws.specs.Choice.{if◌then◌else◌}
+use Rattle.laws.specs.Choice.{when◌then◌else◌}
 use Rattle.bq769x0.specs.Figures.{lower, higher, all_by}
 
 -- ---- the order
@@ -78,12 +78,12 @@ Above a b = b ≤ℤ a
 
 module _ (a b : ℤ) where
   lower_by : (t : Bool) → lt_z b a ≡ t
-      → ((if t then b else a) ≤ℤ a) × ((if t then b else a) ≤ℤ b) × (((if t then b else a) ≡ a) ⊎ ((if t then b else a) ≡ b))
+      → ((when t then b else a) ≤ℤ a) × ((when t then b else a) ≤ℤ b) × (((when t then b else a) ≡ a) ⊎ ((when t then b else a) ≡ b))
   lower_by true e = (le_z_yes (lt_le b a (rw e tt)), ≤ℤ_refl b, inr refl)
   lower_by false e = (≤ℤ_refl a, lt_z_no (rw e tt), inl refl)
 
   higher_by : (t : Bool) → lt_z a b ≡ t
-      → Above (if t then b else a) a × Above (if t then b else a) b × (((if t then b else a) ≡ a) ⊎ ((if t then b else a) ≡ b))
+      → Above (when t then b else a) a × Above (when t then b else a) b × (((when t then b else a) ≡ a) ⊎ ((when t then b else a) ≡ b))
   higher_by true e = (le_z_yes (lt_le a b (rw e tt)), ≤ℤ_refl b, inr refl)
   higher_by false e = (≤ℤ_refl a, lt_z_no (rw e tt), inl refl)
 

@@ -14,7 +14,7 @@ use lib.Dec.{eqb, leb, eqb-suc-suc}
 use borrow.Author.Tests.{le-leb, lt-leb, leb-true, ne_eqb, eqb-true, eqb-false}
 use Rattle.frames.specs.Put.{put}
 use Rattle.frames.proofs.Put.{put_put, sets_put}
-use Rattle.laws.specs.Choice.{if◌then◌else◌}
+use Rattle.laws.specs.Choice.{when◌then◌else◌}
 use Rattle.numbers.specs.Numbers.{word}
 use Rattle.bus.specs.Decoders.{unlog}
 use Rattle.fields.specs.Fields.{field, unfield}
@@ -30,7 +30,7 @@ use Rattle.chip.proofs.Shows.{length_shows}
 
 -- ---- a field on the tape
 abbrev tag : Bool → ℕ
-tag good = if good then 0x01 else 0x02
+tag good = when good then 0x01 else 0x02
 
 said : (good : Bool) (v : List ℕ) → tape_field (saying good v) ≡ field (tag good) v
 unfolding tape_field
@@ -50,7 +50,7 @@ module _ (c d : Chip) (good : Bool) (v tape : List ℕ) (end : ℕ) where
   f = field (tag good) v
 
   told : tells c (reached (saying good v) d) tape end
-      ≡ (if leb (end + length f) (length tape) then (put tape end f, answered_with d (end + length f)) else (tape, answered_with c end))
+      ≡ (when leb (end + length f) (length tape) then (put tape end f, answered_with d (end + length f)) else (tape, answered_with c end))
   unfolding tells
   told = rw (said good v)
 
@@ -157,8 +157,8 @@ module _ (t high low : ℕ) (v : List ℕ) where
   broken n = by (leb (word high low) (length v)) refl
     where
       by : (yes : Bool) → leb (word high low) (length v) ≡ yes
-          → bind (if yes then some (field_of t (take (word high low) v) (drop (word high low) v)) else none)
-          (λ f. if eqb (length f.rest) 0 then unlog f else none) ≡ none
+          → bind (when yes then some (field_of t (take (word high low) v) (drop (word high low) v)) else none)
+          (λ f. when eqb (length f.rest) 0 then unlog f else none) ≡ none
       by true e =
           let fits = leb-true (word high low) (length v) e in
           let more : length (drop (word high low) v) ≡ 0 → ⊥ = λ z. n (omega (arith, length-drop (word high low) v)) in
@@ -170,7 +170,7 @@ unlog_empty : (t : ℕ) → unlog (field_of t [] []) ≡ none
 unfolding unlog
 unlog_empty t = by (eqb t 0x11) (eqb t 0x12) _ _
   where
-    by : (w r : Bool) (a b : Transfer) → (if w && false then some a else if r && false then some b else none) ≡ none
+    by : (w r : Bool) (a b : Transfer) → (when w && false then some a else when r && false then some b else none) ≡ none
     by true true a b = refl
     by true false a b = refl
     by false true a b = refl

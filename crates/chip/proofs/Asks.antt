@@ -10,7 +10,7 @@ use lib.Dec.{eqb, ltb}
 use borrow.Author.Tests.{ltb-false}
 use Rattle.refusals.specs.Refusal.{Refusal, Answer, value, refused}
 use Rattle.frames.specs.Frames.{write_frame}
-use Rattle.laws.specs.Choice.{if◌then◌else◌}
+use Rattle.laws.specs.Choice.{when◌then◌else◌}
 use Rattle.bus.specs.Transfers.{Transfer, read, write, Outcome}
 use Rattle.bus.specs.Programs.{Prog, ret, ask, bind, proceed, ◌or_leave◌, ◌>>=◌}
 use Rattle.bus.specs.Raw.{Done, refuses, sound, plain_read, ask_frame, checked_read, read_raw, read_bytes}
@@ -48,7 +48,7 @@ module _ {P : Transfer → Type 0} where
   asks_pure leave f (refused r) g = nothing
 
   pub asks_if : {A : Type 0} (c : Bool) {p q : Prog A} → (c ≡ true → Asks P p) → (c ≡ false → Asks P q)
-      → Asks P (if c then p else q)
+      → Asks P (when c then p else q)
   asks_if true h k = h refl
   asks_if false h k = k refl
 
@@ -86,7 +86,7 @@ module _ {P : Transfer → Type 0} where
 
     -- over eight bytes nothing is asked for
     refused_first : (unsound : Bool) (f : Done → Prog (Answer Done))
-        → Asks P (bind (if unsound then ret (refuses 9) else ret (refuses 3)) (proceed refused f))
+        → Asks P (bind (when unsound then ret (refuses 9) else ret (refuses 3)) (proceed refused f))
     unfolding bind proceed
     refused_first true f = nothing
     refused_first false f = nothing

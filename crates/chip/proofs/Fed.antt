@@ -10,7 +10,7 @@ use native.Mathlib.Omega.{arith}
 use lib.ListN.{length}
 use Rattle.frames.specs.Frames.{write_frame}
 use Rattle.frames.proofs.Frames.{length_write_frame}
-use Rattle.laws.specs.Choice.{if◌then◌else◌}
+use Rattle.laws.specs.Choice.{when◌then◌else◌}
 use Rattle.bus.specs.Transfers.{Transfer, write, read, Outcome, done, fault, stopped, log_field, tape_field, wanted}
 use Rattle.bus.specs.Programs.{Prog, ret, ask}
 use Rattle.bus.specs.Raw.{read_bytes, write_raw}
@@ -56,7 +56,7 @@ log_decodes p w h =
 
 -- ---- one transfer that is done was not cut
 cut_never : (j : ℕ) (c : Chip) (t : Transfer) (yes : Bool) (bytes : List ℕ)
-    → (if yes then carried (some j) c t else reached (fault []) c).answer ≡ done bytes → ⊥
+    → (when yes then carried (some j) c t else reached (fault []) c).answer ≡ done bytes → ⊥
 unfolding carried
 cut_never j c (write a b) true bytes e = let z : ◌≡◌ {A = ℕ} 0 1 = cc in omega arith
 cut_never j c (read a r n) true bytes e = let z : ◌≡◌ {A = ℕ} 0 1 = cc in omega arith

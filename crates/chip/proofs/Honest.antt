@@ -8,7 +8,7 @@ use mathlib.Core.Option.{Option, none, some}
 use Prim.Native.Nat.{ℕ, ◌+◌, ◌≤◌, ◌<◌}
 use native.Mathlib.Omega.{arith}
 use lib.ListN.{drop, length-take}
-use Rattle.laws.specs.Choice.{if◌then◌else◌}
+use Rattle.laws.specs.Choice.{when◌then◌else◌}
 use Rattle.bus.specs.Transfers.{Transfer, write, read, done, fault, wanted, Bus}
 use Rattle.bus.specs.Programs.{Prog}
 use Rattle.bus.specs.Decoders.{Fitting}
@@ -27,7 +27,7 @@ unfolding begun
 short true r n h = omega arith
 short false r n h = omega arith
 
-acknowledged_fits : (yes : Bool) → Fitting 0 (if yes then done [] else fault [])
+acknowledged_fits : (yes : Bool) → Fitting 0 (when yes then done [] else fault [])
 acknowledged_fits true = (refl, omega arith)
 acknowledged_fits false = (omega arith, omega arith)
 
@@ -47,7 +47,7 @@ carried_fits (some j) c (read a r n) h =
     (omega arith, omega arith)
 
 if_fits : (cut : Option ℕ) (c : Chip) (t : Transfer) (yes : Bool) → answers c t ≡ yes
-    → Fitting (wanted t) (if yes then carried cut c t else reached (fault []) c).answer
+    → Fitting (wanted t) (when yes then carried cut c t else reached (fault []) c).answer
 if_fits cut c t true e = carried_fits cut c t e
 if_fits cut c t false e = (omega arith, omega arith)
 

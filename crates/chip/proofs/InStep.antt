@@ -14,7 +14,7 @@ use Rattle.refusals.specs.Refusal.{Refusal, Answer, value, refused}
 use Rattle.frames.specs.Frames.{write_frame}
 use Rattle.frames.specs.Put.{put}
 use Rattle.frames.proofs.Frames.{length_read_frame}
-use Rattle.laws.specs.Choice.{if◌then◌else◌}
+use Rattle.laws.specs.Choice.{when◌then◌else◌}
 use Rattle.fields.specs.Fields.{field}
 use Rattle.bus.specs.Transfers.{Transfer, read, write, Outcome, tape_field}
 use Rattle.bus.specs.Programs.{Prog, ret, ask, bind, proceed, ◌or_leave◌, ◌>>=◌}
@@ -138,8 +138,8 @@ module _ (link : Link) (ok : sound link ≡ true) (c c' : Chip) (m : Matches lin
         (omega (arith, length_held reg (length bytes) (put x.regs reg bytes)))
 
     step_back : (check : Bool) → link.check ≡ check
-        → InStep (if check || eqb (length bytes) 0 then ret (value tt) else ask_back link.address reg bytes) (uncut (new c))
-        (if check || eqb (length bytes) 0 then ret (value tt) else ask_back link.address reg bytes) (uncut (new c'))
+        → InStep (when check || eqb (length bytes) 0 then ret (value tt) else ask_back link.address reg bytes) (uncut (new c))
+        (when check || eqb (length bytes) 0 then ret (value tt) else ask_back link.address reg bytes) (uncut (new c'))
     unfolding ask_back
     step_back true e = step_ret _ _ _ _
     step_back false e =

@@ -10,7 +10,7 @@ use native.Mathlib.Omega.{arith}
 use lib.ListN.{length, take, drop, length-drop, length-append, drop_of_length-le}
 use lib.Dec.{leb}
 use borrow.Author.Tests.{leb-true, leb-false}
-use Rattle.laws.specs.Choice.{if◌then◌else◌}
+use Rattle.laws.specs.Choice.{when◌then◌else◌}
 use Rattle.refusals.specs.Refusal.{no}
 use Rattle.frames.specs.Put.{put}
 use Rattle.frames.proofs.Put.{length_put, take_put, put_over}
@@ -34,7 +34,7 @@ module _ (t : Transfer) (b : Bus) (end : length b.tape ≤ b.at.tape) where
   unfolding outcome answered after says
   not_made = rw (drop_of_length-le b.tape end) (by_room (leb (b.at.log + length (log_field t)) (length b.log)))
     where
-      by_room : (room : Bool) → after t (if room then stopped (no 16 []) else stopped (no 17 [])) b ≡ b
+      by_room : (room : Bool) → after t (when room then stopped (no 16 []) else stopped (no 17 [])) b ≡ b
       by_room true = refl
       by_room false = refl
 

@@ -11,7 +11,7 @@ use lib.ListN.{length, replicate, length-append}
 use Rattle.refusals.specs.Refusal.{Refusal, Answer, value, refused}
 use Rattle.frames.specs.Frames.{write_frame}
 use Rattle.frames.proofs.Frames.{length_write_frame}
-use Rattle.laws.specs.Choice.{if◌then◌else◌}
+use Rattle.laws.specs.Choice.{when◌then◌else◌}
 use Rattle.fields.specs.Fields.{field}
 use Rattle.bus.specs.Transfers.{Transfer, read, write, Outcome, log_field}
 use Rattle.bus.specs.Programs.{Prog, ret, ask, bind, proceed, ◌or_leave◌, ◌>>=◌}
@@ -40,7 +40,7 @@ logs_one : {A : Type 0} (n : ℕ) (t : Transfer) (f : Outcome → A) → length 
 unfolding log_of
 logs_one n t f h = record { most = λ move s. rw length-append (omega arith) }
 
-logs_if : {A : Type 0} (n : ℕ) (c : Bool) {p q : Prog A} → Logs n p → Logs n q → Logs n (if c then p else q)
+logs_if : {A : Type 0} (n : ℕ) (c : Bool) {p q : Prog A} → Logs n p → Logs n q → Logs n (when c then p else q)
 logs_if n true h k = h
 logs_if n false h k = k
 
@@ -104,7 +104,7 @@ module _ (link : Link) (reg : ℕ) where
         (logs_one sent _ _ (omega (arith, write_log_lem link.address (write_frame link.check link.address reg bytes)))))))
 
     logs_back : (check : Bool)
-        → Logs (cond check 0 7) (if check || eqb (length bytes) 0 then ret (value tt) else ask_back link.address reg bytes)
+        → Logs (cond check 0 7) (when check || eqb (length bytes) 0 then ret (value tt) else ask_back link.address reg bytes)
     unfolding ask_back
     logs_back true = logs_ret 0 _
     logs_back false =

@@ -9,7 +9,7 @@ use native.Mathlib.Omega.{arith}
 use lib.Dec.{eqb, ltb}
 use lib.ListN.{length, replicate}
 use Rattle.refusals.specs.Refusal.{Refusal, Answer, value, refused}
-use Rattle.laws.specs.Choice.{if◌then◌else◌}
+use Rattle.laws.specs.Choice.{when◌then◌else◌}
 use Rattle.bus.specs.Transfers.{Transfer, Outcome}
 use Rattle.bus.specs.Programs.{Prog, ret, ask, bind, proceed, ◌or_leave◌, ◌>>=◌}
 use Rattle.bus.specs.Raw.{sound, plain_read, ask_frame, checked_read, read_raw, read_bytes, ask_write, send, ask_back, write_raw}
@@ -54,7 +54,7 @@ module _ {A B : Type 0} (leave : Refusal → B) (f : A → Prog B) where
   unfolding ◌>>=◌ bind
   makes_pure n y g = makes_proceed n y g
 
-pub makes_if : {A : Type 0} {n : ℕ} (c : Bool) {p q : Prog A} → Makes n p → Makes n q → Makes n (if c then p else q)
+pub makes_if : {A : Type 0} {n : ℕ} (c : Bool) {p q : Prog A} → Makes n p → Makes n q → Makes n (when c then p else q)
 makes_if true h k = h
 makes_if false h k = k
 

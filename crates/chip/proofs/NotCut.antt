@@ -6,7 +6,7 @@ use mathlib.Core.List.{List, []}
 use mathlib.Core.Option.{Option, none, some}
 use Prim.Native.Nat.{ℕ}
 use lib.ListN.{take}
-use Rattle.laws.specs.Choice.{if◌then◌else◌}
+use Rattle.laws.specs.Choice.{when◌then◌else◌}
 use Rattle.bus.specs.Transfers.{Transfer, write, read, Outcome, fault}
 use Rattle.bus.specs.Programs.{Prog, ask}
 use Rattle.chip.specs.Devices.{Reached, reached, on_device}
@@ -21,7 +21,7 @@ unfolding respond_cut carried
 cut_faults j c t = by t (answers c t)
   where
     by : (t : Transfer) (yes : Bool)
-        → (bytes : List ℕ) × ((if yes then carried (some j) c t else reached (fault []) c).answer ≡ fault bytes)
+        → (bytes : List ℕ) × ((when yes then carried (some j) c t else reached (fault []) c).answer ≡ fault bytes)
     by (write a bytes) true = ([], refl)
     by (read a r n) true = (take j (shows c r n), refl)
     by t false = ([], refl)

@@ -8,7 +8,7 @@ use lib.ListN.{length, replicate}
 use lib.Dec.{eqb, ltb}
 use Rattle.refusals.specs.Refusal.{Refusal, Answer, value, refused, answering}
 use Rattle.frames.specs.Frames.{right}
-use Rattle.laws.specs.Choice.{if◌then◌else◌}
+use Rattle.laws.specs.Choice.{when◌then◌else◌}
 use Rattle.bus.specs.Transfers.{Transfer, Outcome, fault}
 use Rattle.bus.specs.Programs.{Prog, ret, ask, bind, proceed, ◌or_leave◌, ◌>>=◌}
 use Rattle.bus.specs.Raw.{Done, Read, gives, refuses, sound, plainly, where_right, checkedly, plain_read, ask_frame, checked_read, read_raw}
@@ -65,7 +65,7 @@ module _ {A B : Type 0} {Off : B → Type 0} where
   quits_pure leave f (refused r) g = ends
 
 pub quits_if : {A : Type 0} {Off : A → Type 0} (c : Bool) {p q : Prog A}
-    → Quits Off p → Quits Off q → Quits Off (if c then p else q)
+    → Quits Off p → Quits Off q → Quits Off (when c then p else q)
 quits_if true h k = h
 quits_if false h k = k
 
@@ -82,7 +82,7 @@ checkedly_off : (address : ℕ) (buf bytes : List ℕ) → Refuses (checkedly ad
 unfolding checkedly where_right
 checkedly_off address buf bytes = by (right _ _)
   where
-    by : (yes : Bool) → Refuses (if yes then gives (refuses 2) buf else gives (refuses 1) buf).answer
+    by : (yes : Bool) → Refuses (when yes then gives (refuses 2) buf else gives (refuses 1) buf).answer
     by true = refuses_by _
     by false = refuses_by _
 

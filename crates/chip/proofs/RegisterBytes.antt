@@ -10,7 +10,7 @@ use lib.Dec.{eqb}
 use Rattle.check_byte.specs.CheckByte.{check_byte, Bytes}
 use Rattle.frames.specs.Frames.{write_byte}
 use Rattle.frames.proofs.Frames.{bytes_read_frame}
-use Rattle.laws.specs.Choice.{if◌then◌else◌}
+use Rattle.laws.specs.Choice.{when◌then◌else◌}
 use Rattle.fields.specs.Fields.{field}
 use Rattle.bus.specs.Transfers.{Transfer, write, read, Outcome, done, fault, stopped, tape_field}
 use Rattle.bus.proofs.OfBytes.{take_bytes}
@@ -51,7 +51,7 @@ stores_bytes r [] regs k h = h
 stores_bytes r (x ∷ bytes) regs k h =
     stores_bytes (suc r) bytes (arrives r x regs) k.1 (arrives_bytes r x regs k.0 h)
 
-if_bytes : (yes : Bool) (l : List ℕ) → Bytes l → Bytes (if yes then l else [])
+if_bytes : (yes : Bool) (l : List ℕ) → Bytes l → Bytes (when yes then l else [])
 if_bytes true l h = h
 if_bytes false l h = tt
 
@@ -89,7 +89,7 @@ module _ (c : Chip) (h : Bytes c.regs) where
   shows_bytes r n =
       take_bytes n _ (bytes_read_frame c.check c.address _ (held_bytes r (begun c.check n) c.regs h))
 
-  acknowledged_bytes : (yes : Bool) → Bytes (delivered (if yes then done [] else fault []))
+  acknowledged_bytes : (yes : Bool) → Bytes (delivered (when yes then done [] else fault []))
   acknowledged_bytes true = tt
   acknowledged_bytes false = tt
 
@@ -103,7 +103,7 @@ module _ (c : Chip) (h : Bytes c.regs) where
   carried_bytes (some j) (read a r n) k = record { answer = take_bytes j (shows c r n) (shows_bytes r n); device = h }
 
   if_both : (cut : Option ℕ) (t : Transfer) (yes : Bool) → Sends t
-      → Both (if yes then carried cut c t else reached (fault []) c)
+      → Both (when yes then carried cut c t else reached (fault []) c)
   if_both cut t true k = carried_bytes cut t k
   if_both cut t false k = record { answer = tt; device = h }
 

@@ -14,7 +14,7 @@ use borrow.Author.Tests.{eq-eqb, ne_eqb, leb-true, leb-false}
 use Rattle.check_byte.specs.CheckByte.{check_byte}
 use Rattle.frames.specs.Frames.{write_byte, read_byte, checked, framed, read_frame}
 use Rattle.frames.proofs.Steps.{next, shifted}
-use Rattle.laws.specs.Choice.{if◌then◌else◌}
+use Rattle.laws.specs.Choice.{when◌then◌else◌}
 use Rattle.chip.specs.Chip.{with_regs, begun, arrives, stores, agreed, held, shows}
 use Rattle.chip.specs.declared.Chip.{Chip}
 use Rattle.chip.proofs.Shows.{length_held}
@@ -85,7 +85,7 @@ first_covered address r x e = e ∙ ap (λ (y : ℕ). check_byte (y ∷ r ∷ x 
 module _ (before l : List ℕ) (i : ℕ) where
   next_agreed : i + 1 < length l
       → agreed before (drop i l)
-      ≡ (if eqb (get_or l (i + 1) 0) (check_byte (before ++ get_or l i 0 ∷ [])) then get_or l i 0 ∷ agreed [] (drop (i + 2) l) else [])
+      ≡ (when eqb (get_or l (i + 1) 0) (check_byte (before ++ get_or l i 0 ∷ [])) then get_or l i 0 ∷ agreed [] (drop (i + 2) l) else [])
   unfolding agreed
   next_agreed h =
       let here : i < length l = omega arith in

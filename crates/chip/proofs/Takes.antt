@@ -11,7 +11,7 @@ use lib.Seq.{take-length}
 use lib.Dec.{eqb, leb}
 use borrow.Author.Tests.{leb-true, eq-eqb}
 use Rattle.frames.specs.Frames.{write_byte}
-use Rattle.laws.specs.Choice.{if◌then◌else◌}
+use Rattle.laws.specs.Choice.{when◌then◌else◌}
 use Rattle.bus.specs.Transfers.{Transfer, write, Outcome, done, fault}
 use Rattle.chip.specs.Inside.{saying}
 use Rattle.chip.specs.Devices.{Reached, reached}
@@ -107,7 +107,7 @@ module _ (c : Chip) (l : List ℕ) where
   unfolding respond_cut carried
   cut_faults j = by (answers c sent)
     where
-      by : (yes : Bool) → (if yes then carried (some j) c sent else reached (fault []) c).answer ≡ fault []
+      by : (yes : Bool) → (when yes then carried (some j) c sent else reached (fault []) c).answer ≡ fault []
       by true = refl
       by false = refl
 
@@ -116,7 +116,7 @@ module _ (c : Chip) (l : List ℕ) where
   whole_goes = by (answers c sent) (acknowledged c l)
     where
       by : (yes good : Bool)
-          → (if yes then reached (if good then done [] else fault []) (written c l) else reached (fault []) c).answer
+          → (when yes then reached (when good then done [] else fault []) (written c l) else reached (fault []) c).answer
           ≡ saying (yes && good) []
       by true true = refl
       by true false = refl

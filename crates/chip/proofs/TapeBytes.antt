@@ -13,7 +13,7 @@ use Rattle.refusals.specs.Refusal.{Refusal, Answer, value, refused, answering}
 use Rattle.frames.specs.Frames.{right, data_of}
 use Rattle.frames.specs.Put.{put}
 use Rattle.frames.proofs.Frames.{bytes_write_frame}
-use Rattle.laws.specs.Choice.{if◌then◌else◌}
+use Rattle.laws.specs.Choice.{when◌then◌else◌}
 use Rattle.bus.specs.Transfers.{Transfer, Outcome, done, fault, stopped, tape_field}
 use Rattle.bus.specs.Programs.{Prog, ret, ask, bind, proceed, ◌or_leave◌, ◌>>=◌}
 use Rattle.bus.specs.Raw.{Done, Read, gives, refuses, sound, plainly, received, where_right, checkedly, plain_read, ask_frame, checked_read}
@@ -84,7 +84,7 @@ module _ {A B : Type 0} {T : B → Type 0} (leave : Refusal → B) (f : A → Pr
   sending_pure (refused r) g = ends (off r)
 
 pub sending_if : {A : Type 0} {R : A → Type 0} (c : Bool) {p q : Prog A}
-    → Sending R p → Sending R q → Sending R (if c then p else q)
+    → Sending R p → Sending R q → Sending R (when c then p else q)
 sending_if true h k = h
 sending_if false h k = k
 
@@ -121,7 +121,7 @@ plainly_bytes buf h (fault bytes) k = put_bytes buf 0 bytes h k
 plainly_bytes buf h (stopped r) k = h
 
 where_bytes : (yes : Bool) (buf : List ℕ) (r : Read) → Bytes buf → ReadsBytes r
-    → ReadsBytes (if yes then r else gives (refuses 1) buf)
+    → ReadsBytes (when yes then r else gives (refuses 1) buf)
 where_bytes true buf r h k = k
 where_bytes false buf r h k = h
 

@@ -12,7 +12,7 @@ use lib.Seq.{get_or-set_other}
 use lib.Dec.{eqb}
 use Rattle.check_byte.specs.CheckByte.{check_byte}
 use Rattle.frames.specs.Frames.{write_byte, write_frame}
-use Rattle.laws.specs.Choice.{if◌then◌else◌}
+use Rattle.laws.specs.Choice.{when◌then◌else◌}
 use Rattle.bus.specs.Transfers.{Transfer, write, read, fault}
 use Rattle.bus.specs.Programs.{Prog}
 use Rattle.bus.specs.Raw.{read_bytes, write_raw}
@@ -56,7 +56,7 @@ length_stores r [] regs = refl
 length_stores r (x ∷ bytes) regs = length_stores (suc r) bytes (arrives r x regs) ∙ length_arrives r x regs
 
 if_few : (x : ℕ) (more rest : List ℕ) (yes : Bool) → 2 * length more ≤ length rest
-    → 2 * length (if yes then x ∷ more else []) ≤ suc (suc (length rest))
+    → 2 * length (when yes then x ∷ more else []) ≤ suc (suc (length rest))
 if_few x more rest true h = omega arith
 if_few x more rest false h = omega arith
 
@@ -97,7 +97,7 @@ module _ (i : ℕ) (c : Chip) where
   carried_other (some j) (read a r n) h = refl
 
   if_other : (cut : Option ℕ) (t : Transfer) (yes : Bool) → Spares c.check i t
-      → get_or (if yes then carried cut c t else reached (fault []) c).device.regs i 0 ≡ get_or c.regs i 0
+      → get_or (when yes then carried cut c t else reached (fault []) c).device.regs i 0 ≡ get_or c.regs i 0
   if_other cut t true h = carried_other cut t h
   if_other cut t false h = refl
 
@@ -124,7 +124,7 @@ module _ (c : Chip) where
   carried_kind (some j) (read a r n) = same_kind
 
   if_kind : (cut : Option ℕ) (t : Transfer) (yes : Bool)
-      → SameKind c (if yes then carried cut c t else reached (fault []) c).device
+      → SameKind c (when yes then carried cut c t else reached (fault []) c).device
   if_kind cut t true = carried_kind cut t
   if_kind cut t false = same_kind
 
@@ -136,7 +136,7 @@ pub read_keeps : (cut : Option ℕ) (c : Chip) (a r n : ℕ) → (respond_cut cu
 unfolding respond_cut carried
 read_keeps cut c a r n = by (answers c (read a r n)) cut
   where
-    by : (yes : Bool) (cut : Option ℕ) → (if yes then carried cut c (read a r n) else reached (fault []) c).device ≡ c
+    by : (yes : Bool) (cut : Option ℕ) → (when yes then carried cut c (read a r n) else reached (fault []) c).device ≡ c
     by true none = refl
     by true (some j) = refl
     by false cut = refl

@@ -12,7 +12,7 @@ use Rattle.refusals.specs.Refusal.{Refusal, Answer, value, refused, answering, n
 use Rattle.refusals.proofs.Values.{refused_not, same_value}
 use Rattle.frames.specs.Frames.{right, read_frame}
 use Rattle.frames.specs.Put.{put}
-use Rattle.laws.specs.Choice.{if◌then◌else◌}
+use Rattle.laws.specs.Choice.{when◌then◌else◌}
 use Rattle.bus.specs.Transfers.{fault}
 use Rattle.bus.specs.Programs.{Prog, ret, ◌or_leave◌, ◌>>=◌}
 use Rattle.bus.specs.Raw.{Done, Read, sound, gives, refuses, plainly, where_right, checkedly, read_raw, read_bytes, write_raw}
@@ -32,7 +32,7 @@ cut_refused false address buf bytes = (_, refl)
 cut_refused true address buf bytes = by (right _ _)
   where
     by : (yes : Bool)
-        → (r : Refusal) × ((if yes then gives (refuses 2) buf else gives (refuses 1) buf).answer ≡ refused r)
+        → (r : Refusal) × ((when yes then gives (refuses 2) buf else gives (refuses 1) buf).answer ≡ refused r)
     by true = (_, refl)
     by false = (_, refl)
 

@@ -3,7 +3,7 @@
 use Rattle.std.specs.Prelude.{List, ℕ, ◌+◌, length, eqb, leb}
 use Rattle.std.proofs.Math.Option.{Option, none, some, bind}
 use Rattle.frames.specs.Put.{put}
-use Rattle.laws.specs.Choice.{if◌then◌else◌}
+use Rattle.laws.specs.Choice.{when◌then◌else◌}
 use Rattle.fields.specs.Fields.{unfield}
 use Rattle.bus.specs.Decoders.{unlog}
 use Rattle.bus.specs.Transfers.{Transfer, Outcome, tape_field}
@@ -20,7 +20,7 @@ as_cut (C.After n) = some n
 
 -- the transfer whose log field these bytes are, and nothing more
 unfoldable pub transfer_of : List ℕ → Option Transfer
-transfer_of bytes = bind (unfield bytes) λ f. if eqb (length f.rest) 0 then unlog f else none
+transfer_of bytes = bind (unfield bytes) λ f. when eqb (length f.rest) 0 then unlog f else none
 
 abbrev pub answered_with : Chip → ℕ → Answered
 answered_with c end = record { chip = c; end = end }
@@ -29,7 +29,7 @@ answered_with c end = record { chip = c; end = end }
 unfoldable pub tells : Chip → Reached Chip Outcome → List ℕ → ℕ → List ℕ × Answered
 tells c r tape end =
     let said = tape_field r.answer in
-    if leb (end + length said) (length tape)
+    when leb (end + length said) (length tape)
     then (put tape end said, answered_with r.device (end + length said))
     else (tape, answered_with c end)
 

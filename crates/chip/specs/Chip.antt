@@ -5,7 +5,7 @@ use Rattle.std.proofs.Math.Option.{Option, none, some}
 use Rattle.std.specs.Int.Bits.{bit_and}
 use Rattle.check_byte.specs.CheckByte.{check_byte}
 use Rattle.frames.specs.Frames.{write_byte, read_frame}
-use Rattle.laws.specs.Choice.{if◌then◌else◌}
+use Rattle.laws.specs.Choice.{when◌then◌else◌}
 use Rattle.bus.specs.Transfers.{Transfer, write, read, Outcome, done, fault, stopped}
 use Rattle.chip.specs.Devices.{Reached, reached}
 use Rattle.chip.specs.declared.Chip.{Chip}
@@ -53,7 +53,7 @@ stores r (x ∷ bytes) regs = stores (suc r) bytes (arrives r x regs)
 unfoldable pub agreed : List ℕ → List ℕ → List ℕ
 agreed before [] = []
 agreed before (x ∷ []) = []
-agreed before (x ∷ c ∷ rest) = if eqb c (check_byte (before ++ x ∷ [])) then x ∷ agreed [] rest else []
+agreed before (x ∷ c ∷ rest) = when eqb c (check_byte (before ++ x ∷ [])) then x ∷ agreed [] rest else []
 
 -- the data bytes that are stored
 unfoldable pub accepted : Bool → List ℕ → List ℕ → List ℕ
@@ -101,13 +101,13 @@ answers c (read a r n) = eqb a c.address && leb (r + begun c.check n) 256
 -- a transfer that it answers, whole, or cut after so many bytes behind the address byte: then what came is stored, or delivered, and
 -- it faults
 unfoldable pub carried : Option ℕ → Chip → Transfer → Reached Chip Outcome
-carried none c (write a bytes) = reached (if acknowledged c bytes then done [] else fault []) (written c bytes)
+carried none c (write a bytes) = reached (when acknowledged c bytes then done [] else fault []) (written c bytes)
 carried none c (read a r n) = reached (done (shows c r n)) c
 carried (some j) c (write a bytes) = reached (fault []) (written c (take j bytes))
 carried (some j) c (read a r n) = reached (fault (take j (shows c r n))) c
 
 unfoldable pub respond_cut : Option ℕ → Chip → Transfer → Reached Chip Outcome
-respond_cut cut c t = if answers c t then carried cut c t else reached (fault []) c
+respond_cut cut c t = when answers c t then carried cut c t else reached (fault []) c
 
 abbrev pub respond : Chip → Transfer → Reached Chip Outcome
 respond = respond_cut none

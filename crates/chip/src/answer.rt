@@ -4,7 +4,7 @@ ghost use Rattle.std.specs.Prelude.{◌≡◌, ◌&&◌, [], ◌∷◌, ℕ, ◌
 ghost use Rattle.numbers.specs.Numbers.{word};
 ghost use Rattle.frames.specs.Frames.{write_byte};
 ghost use Rattle.frames.specs.Put.{put};
-ghost use Rattle.laws.specs.Choice.{if◌then◌else◌};
+ghost use Rattle.laws.specs.Choice.{when◌then◌else◌};
 ghost use Rattle.bus.specs.Transfers.{read, write};
 ghost use Rattle.chip.specs.Devices.{reached};
 ghost use Rattle.chip.specs.Chip.{begun, agreed, acknowledged, shows, respond_cut};
@@ -42,7 +42,7 @@ fn is_field(bytes: &[u8]) -> bool
 
 // A field's tag: done, or a fault.
 fn tag_of(good: bool) -> u8
-    ensures { result ≡ (if good then 0x01 else 0x02) }
+    ensures { result ≡ (when good then 0x01 else 0x02) }
 {
     if good { 0x01 } else { 0x02 }
 }

@@ -4,7 +4,7 @@
 use mathlib.Core.Path.{◌≡◌}
 use mathlib.Core.Bool.{Bool, true, false, not}
 use Rattle.refusals.specs.Refusal.{Answer, value, refused, nine}
-use Rattle.laws.specs.Choice.{if◌then◌else◌}
+use Rattle.laws.specs.Choice.{when◌then◌else◌}
 use Rattle.bus.specs.Transfers.{Bus}
 use Rattle.bus.specs.Programs.{ret, on_tape}
 use Rattle.bq769x0.specs.Record.{is_sound}
@@ -25,6 +25,6 @@ pub die_alone : (d : BQ769x0) (b : Bus) → Die (on_tape (temperature_source d) 
 unfolding soundly read_as always
 die_alone d b = on_tape_lem Die (temperature_source d) (by_test (is_sound d)) b
   where
-    by_test : (sound : Bool) → always Die (if not sound then ret (refused nine) else read_as source_in d.link 0x04)
+    by_test : (sound : Bool) → always Die (when not sound then ret (refused nine) else read_as source_in d.link 0x04)
     by_test true = always_call Die refused _ (λ r. tt) (read_register d.link 0x04) λ byte. rw (unseen byte)
     by_test false = tt

@@ -5,7 +5,7 @@ use Rattle.refusals.specs.Refusal.{Answer, value, refused, nine}
 use Rattle.units.specs.Flags.{bit}
 use Rattle.units.specs.declared.flags.Stat.{Stat}
 use Rattle.units.specs.declared.flags.SysStat.{SysStat}
-use Rattle.laws.specs.Choice.{if◌then◌else◌}
+use Rattle.laws.specs.Choice.{when◌then◌else◌}
 use Rattle.bus.specs.Programs.{Prog, ret, ◌or_leave◌, ◌>>=◌}
 use Rattle.bus.specs.Raw.{Done, refuses}
 use Rattle.bus.specs.Raw as link
@@ -49,7 +49,7 @@ sys_stat d = soundly d (refused nine) (read_as stat_of d.link 0x00)
 -- 18 for bit 6, which is no flag
 abbrev pub sys_stat_reset : BQ769x0 → SysStat → Prog (Answer Done)
 sys_stat_reset d flags = soundly d (refused nine) (
-    if bit 6 flags.bits then ret (refuses 18)
+    when bit 6 flags.bits then ret (refuses 18)
     else link.write_raw d.link 0x00 (flags.bits ∷ []))
 
 -- ---- switches: 05, bit 1 discharging, bit 0 charging
@@ -84,7 +84,7 @@ set_temperature_source d source =
 
 -- the bit is cleared, and then tested
 abbrev pub source_in : ℕ → TemperatureSource
-source_in byte = if thermistor byte then T.ExternalThermistor else T.InternalDie
+source_in byte = when thermistor byte then T.ExternalThermistor else T.InternalDie
 
 abbrev pub temperature_source : BQ769x0 → Prog (Answer TemperatureSource)
 temperature_source d = soundly d (refused nine) (read_as source_in d.link 0x04)

@@ -12,7 +12,7 @@ use lib.Seq.{take_at, drop_at, drop-drop, length-take-le}
 use lib.Dec.{leb}
 use borrow.Author.Tests.{le-leb, lt-leb, leb-true, leb-false}
 use Rattle.numbers.specs.Numbers.{word}
-use Rattle.laws.specs.Choice.{if◌then◌else◌}
+use Rattle.laws.specs.Choice.{when◌then◌else◌}
 use Rattle.fields.specs.Fields.{field, Field, unfield}
 
 -- a number's two bytes, high first
@@ -46,7 +46,7 @@ module _ (tag high low : ℕ) (bytes : List ℕ) (h : high < 256) (l : low < 256
       record { is = rw (size, up, down, take-append-drop); short = omega (arith, size) }
 
   whole_if : (f : Field) (c : Bool) → leb (word high low) (length bytes) ≡ c
-      → (if c then some (field_of tag (take (word high low) bytes) (drop (word high low) bytes)) else none) ≡ some f
+      → (when c then some (field_of tag (take (word high low) bytes) (drop (word high low) bytes)) else none) ≡ some f
       → Whole (tag ∷ high ∷ low ∷ bytes) f
   whole_if f true e q = subst (Whole (tag ∷ high ∷ low ∷ bytes)) (some-injective _ _ q) (whole (leb-true _ _ e))
   whole_if f false e q = absurd (none-ne-some _ q)

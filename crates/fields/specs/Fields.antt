@@ -2,7 +2,7 @@
 -- Assumes nothing.
 use Rattle.std.specs.Prelude.{ℕ, ◌/◌, ◌%◌, List, [], ◌∷◌, length, take, drop, leb}
 use Rattle.std.proofs.Math.Option.{Option, none, some}
-use Rattle.laws.specs.Choice.{if◌then◌else◌}
+use Rattle.laws.specs.Choice.{when◌then◌else◌}
 use Rattle.numbers.specs.Numbers.{word}
 
 unfoldable pub field : ℕ → List ℕ → List ℕ
@@ -19,6 +19,6 @@ unfield [] = none
 unfield (tag ∷ []) = none
 unfield (tag ∷ high ∷ []) = none
 unfield (tag ∷ high ∷ low ∷ bytes) =
-    if leb (word high low) (length bytes)
+    when leb (word high low) (length bytes)
     then some (record { tag = tag; value = take (word high low) bytes; rest = drop (word high low) bytes })
     else none

@@ -16,7 +16,7 @@ use Rattle.plan.specs.declared.Config.{Config}
 use Rattle.plan.proofs.Never20.{in_a_range}
 use Rattle.job.specs.Jobs.{number_at}
 use Rattle.numbers.specs.Numbers.{eight, four}
-use Rattle.laws.specs.Choice.{if◌then◌else◌}
+use Rattle.laws.specs.Choice.{when◌then◌else◌}
 use Rattle.bus.specs.Transfers.{Bus}
 use Rattle.bus.specs.Programs.{Prog, ret, on_tape}
 use Rattle.bus.specs.Raw.{Done}
@@ -75,7 +75,7 @@ init_in choose d config =
     onward_in config steps left.device left.answer)
   where
     by : (t : Bool) (p : Prog (Left Values)) → always InRange p
-        → always InRange (if not t then ret (leaving d nine) else p)
+        → always InRange (when not t then ret (leaving d nine) else p)
     by true p h = h
     by false p h = tt
 

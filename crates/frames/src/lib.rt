@@ -3,7 +3,7 @@
 #![tactic(auto)]
 
 ghost use Rattle.std.specs.Prelude.{◌≡◌, [], ◌∷◌, ◌+◌, ◌*◌, ◌≤◌, ◌<◌, length, take, drop, replicate};
-ghost use Rattle.laws.specs.Choice.{if◌then◌else◌};
+ghost use Rattle.laws.specs.Choice.{when◌then◌else◌};
 ghost use Rattle.frames.specs.Frames.{write_byte, read_byte, checked, right, data_of, written_frame};
 ghost use Rattle.frames.specs.Put.{put};
 
@@ -64,7 +64,7 @@ pub fn write_frame(check: bool, address: u8, reg: u8, data: &[u8], out: &mut [u8
 pub fn taken(address: u8, frame: &[u8; 66], eights: usize, data: &mut [u8; 32]) -> bool
     ensures { (result ≡ right (read_byte address ∷ []) (take (16 * eights + 2) frame.now))
         × («data».new
-        ≡ (if result then put «data».old 0 (take 32 (data_of (take (16 * eights) frame.now))) else replicate 32 0)) }
+        ≡ (when result then put «data».old 0 (take 32 (data_of (take (16 * eights) frame.now))) else replicate 32 0)) }
 {
     // a slice: of an array behind a reference the proof is not told the length
     let bytes: &[u8] = frame;

@@ -1,7 +1,7 @@
 -- Millivolts in the caller's bytes: four each, in two's complement, high byte first.
 -- Assumes nothing.
 use Rattle.std.specs.Prelude.{ℕ, ◌*◌, Bool, ◌&&◌, List, [], ◌∷◌, ◌++◌, leb, ℤ, length, take}
-use Rattle.laws.specs.Choice.{if◌then◌else◌}
+use Rattle.laws.specs.Choice.{when◌then◌else◌}
 use Rattle.frames.specs.Put.{put}
 use Rattle.numbers.specs.Numbers.{four, as_u32}
 
@@ -19,4 +19,4 @@ has_room n bytes = leb (4 * n) bytes && leb n 15
 
 -- where there is room; else the list as it was
 abbrev pub stored_in : ℕ → List ℤ → List ℕ → List ℕ
-stored_in n cells list = if has_room n (length list) then stored n cells list else list
+stored_in n cells list = when has_room n (length list) then stored n cells list else list

@@ -4,7 +4,7 @@ use mathlib.Core.Path.{◌≡◌}
 use mathlib.Core.Bool.{Bool, true, false}
 use Prim.Native.Nat.{ℕ, ◌+◌}
 use Rattle.refusals.specs.Refusal.{Refusal, Answer, value}
-use Rattle.laws.specs.Choice.{if◌then◌else◌}
+use Rattle.laws.specs.Choice.{when◌then◌else◌}
 use Rattle.bus.specs.Programs.{Prog, ret, bind, ◌or_leave◌, ◌>>=◌}
 use Rattle.bus.specs.Raw.{read_bytes}
 use Rattle.bus.specs.declared.link.Link.{Link}
@@ -20,7 +20,7 @@ pub small_ret : {A : Type 0} (Off : A → Type 0) (m n : ℕ) (a : A) → Small 
 small_ret Off m n a = record { fine = fine_ret Off n a; makes = no_more }
 
 pub small_if : {A : Type 0} {Off : A → Type 0} (m n : ℕ) (c : Bool) {p q : Prog A} → Small Off m n p → Small Off m n q
-    → Small Off m n (if c then p else q)
+    → Small Off m n (when c then p else q)
 small_if m n true h k = h
 small_if m n false h k = k
 

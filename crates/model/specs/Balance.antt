@@ -9,7 +9,7 @@ use Rattle.check_byte.specs.CheckByte.{Bytes}
 use Rattle.cellbal.specs.Rules.{allowed}
 use Rattle.cellbal.specs.Registers.{register_count, registers_for, set_of}
 use Rattle.frames.specs.Put.{put}
-use Rattle.laws.specs.Choice.{if◌then◌else◌}
+use Rattle.laws.specs.Choice.{when◌then◌else◌}
 use Rattle.bus.specs.Raw.{Done}
 use Rattle.bq769x0.specs.Record.{accepts, is_sound}
 use Rattle.bq769x0.specs.declared.BQ769x0.{BQ769x0}
@@ -37,7 +37,7 @@ enough = 15
 module _ (d : BQ769x0) (set limit : ℕ) where
   -- the bytes that are new; none where the call is refused ahead of its write
   abbrev pub new_registers : List ℕ
-  new_registers = if is_sound d && accepts (allowed d.link.x set limit) then registers_for d.link.x set else []
+  new_registers = when is_sound d && accepts (allowed d.link.x set limit) then registers_for d.link.x set else []
 
   -- of them so many come by a wire
   abbrev pub brought : (ℕ → Option ℕ) → ℕ

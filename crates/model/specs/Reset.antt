@@ -2,7 +2,7 @@
 -- Assumes nothing.
 use Rattle.std.specs.Prelude.{Bool, true, false, ◌&&◌, [], ◌∷◌, ℕ, eqb, pos}
 use Rattle.refusals.specs.Refusal.{no, Answer, value, refused}
-use Rattle.laws.specs.Choice.{if◌then◌else◌}
+use Rattle.laws.specs.Choice.{when◌then◌else◌}
 use Rattle.bus.specs.Raw.{Done}
 use Rattle.chip.specs.Chip.{with_regs, arrives}
 use Rattle.chip.specs.declared.Chip.{Chip}
@@ -11,7 +11,7 @@ use Rattle.chip.specs.declared.Chip.{Chip}
 -- so 5 with register 00 unless both are 0
 abbrev pub reset_answer : Bool → ℕ → ℕ → Answer Done
 reset_answer true status flags = value tt
-reset_answer false status flags = if eqb flags 0 && eqb status 0 then value tt else refused (no 5 (pos 0x00 ∷ []))
+reset_answer false status flags = when eqb flags 0 && eqb status 0 then value tt else refused (no 5 (pos 0x00 ∷ []))
 
 -- the flags cleared; the chip's Status laws say it bit by bit
 abbrev pub flags_cleared : ℕ → Chip → Chip

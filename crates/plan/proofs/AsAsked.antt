@@ -12,7 +12,7 @@ use lib.IntN.{ℤ}
 use lib.ListN.{get_or}
 use lib.Signed.{mag}
 use borrow.Author.Tests.{ltb-true, leb-true, eqb-false}
-use Rattle.laws.specs.Choice.{if◌then◌else◌}
+use Rattle.laws.specs.Choice.{when◌then◌else◌}
 use Rattle.refusals.specs.Refusal.{Answer, value, refused, refused_if, no}
 use Rattle.refusals.proofs.Values.{same_value, refused_not}
 use Rattle.protection.specs.Delays.{scd_times, ocd_times, uv_times, ov_times}
@@ -129,9 +129,9 @@ module _ (gain : ℕ) (offset : ℤ) (config : Config) {steps : InMv} (g : Given
 
     by_tests : (a o u : Bool) → apart (scd_step config) (ocd_step config) ≡ a → ov ≡ o → uv ≡ u
         → of678 named
-        ≡ (if a then some (no 6 [])
-        else if not o then some (no 8 (figures (ov_limits gain offset)))
-        else if not u then some (no 7 (figures (uv_limits gain offset)))
+        ≡ (when a then some (no 6 [])
+        else when not o then some (no 8 (figures (ov_limits gain offset)))
+        else when not u then some (no 7 (figures (uv_limits gain offset)))
         else none)
     by_tests true o u a-is o_is u-is =
         ap of678 (mismatch-is gain offset config g.short g.over g.shunt positive (apart_is ∙ a-is))

@@ -2,7 +2,7 @@
 -- Assumes nothing.
 use Rattle.std.specs.Prelude.{ℕ, Bool, false, not, ◌&&◌, ◌||◌, List, [], eqb, leb, ℤ}
 use Rattle.std.proofs.Math.Option.{Option, none, some}
-use Rattle.laws.specs.Choice.{if◌then◌else◌}
+use Rattle.laws.specs.Choice.{when◌then◌else◌}
 use Rattle.refusals.specs.Refusal.{Refusal, Answer, value, refused, no}
 use Rattle.protection.specs.Ranges.{is_in}
 use Rattle.protection.specs.Steps.{scd_lower, scd_upper, ocd_lower, ocd_upper}
@@ -27,13 +27,13 @@ apart scd ocd =
 -- the refusal in an answer, where it is 6, 7 or 8
 abbrev pub of678 : {A : Type 0} → Answer A → Option Refusal
 of678 (value a) = none
-of678 (refused r) = if leb 6 r.number && leb r.number 8 then some r else none
+of678 (refused r) = when leb 6 r.number && leb r.number 8 then some r else none
 
 -- 6 where the steps are apart; or else 8 where the overvoltage asked is outside what OV_TRIP can stand for; or else 7 where the undervoltage is
 -- outside what UV_TRIP can; each of these two with the limits
 abbrev pub unfit : ℕ → ℤ → Config → Option Refusal
 unfit gain offset config =
-    if apart (scd_step config) (ocd_step config) then some (no 6 [])
-    else if not (obtainable config.ov_threshold.0 (ov_limits gain offset)) then some (no 8 (figures (ov_limits gain offset)))
-    else if not (obtainable config.uv_threshold.0 (uv_limits gain offset)) then some (no 7 (figures (uv_limits gain offset)))
+    when apart (scd_step config) (ocd_step config) then some (no 6 [])
+    else when not (obtainable config.ov_threshold.0 (ov_limits gain offset)) then some (no 8 (figures (ov_limits gain offset)))
+    else when not (obtainable config.uv_threshold.0 (uv_limits gain offset)) then some (no 7 (figures (uv_limits gain offset)))
     else none

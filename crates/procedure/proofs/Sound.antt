@@ -15,7 +15,7 @@ use Rattle.adc.proofs.Gain.{gain_range}
 use Rattle.units.specs.declared.MicroOhms.{MicroOhms}
 use Rattle.plan.specs.Steps.{InMv, bad_shunt}
 use Rattle.plan.specs.declared.Config.{Config}
-use Rattle.laws.specs.Choice.{if◌then◌else◌}
+use Rattle.laws.specs.Choice.{when◌then◌else◌}
 use Rattle.bus.specs.Transfers.{Bus}
 use Rattle.bus.specs.Programs.{on_tape}
 use Rattle.bq769x0.specs.Record.{is_sound, with_shunt}
@@ -40,8 +40,8 @@ some_gain b50 b59 = ne_eqb (gain_of b50 b59) 0 (none (gain_of b50 b59) (gain_ran
 
 -- a mark that is right stays right with another gain that is not 0
 another_gain : (mark : Bool) (shunt : Bool) (gain gain' : Bool) → gain' ≡ false
-    → (if mark then not shunt && not gain else shunt) ≡ true
-    → (if mark then not shunt && not gain' else shunt) ≡ true
+    → (when mark then not shunt && not gain else shunt) ≡ true
+    → (when mark then not shunt && not gain' else shunt) ≡ true
 another_gain true shunt gain gain' some e = rw (((and-eq-true_iff (not shunt) (not gain)).0 e).0, some)
 another_gain false shunt gain gain' some e = e
 

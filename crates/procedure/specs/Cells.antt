@@ -3,7 +3,7 @@
 use Rattle.std.specs.Prelude.{ℕ, not, ◌||◌, List, [], ltb, ℤ, length}
 use Rattle.refusals.specs.Refusal.{Refusal, Answer, value, refused, refused_if, nine}
 use Rattle.units.specs.declared.MilliVolts.{MilliVolts}
-use Rattle.laws.specs.Choice.{if◌then◌else◌}
+use Rattle.laws.specs.Choice.{when◌then◌else◌}
 use Rattle.laws.specs.Over.{◌over◌}
 use Rattle.bus.specs.Programs.{Prog, ret, ◌or_leave◌, ◌>>=◌}
 use Rattle.bus.specs.Raw.{Done}
@@ -45,4 +45,4 @@ cell_voltages d list = soundly d (untouched d list nine) (do
 
 -- the leading part of a list with room for so many; nothing where the count exceeds the room or 15
 abbrev pub handed_back : ℕ → List MilliVolts → ℕ → List ℤ
-handed_back n cells room = if ltb room n || ltb 15 n then [] else first_cells n cells
+handed_back n cells room = when ltb room n || ltb 15 n then [] else first_cells n cells

@@ -15,7 +15,7 @@ use Rattle.numbers.specs.Numbers.{word}
 use Rattle.refusals.specs.Refusal.{no, as_refusal}
 use Rattle.refusals.specs.declared.Error.{Error}
 use Rattle.refusals.specs.declared.Error.TheVariants as E
-use Rattle.laws.specs.Choice.{if◌then◌else◌}
+use Rattle.laws.specs.Choice.{when◌then◌else◌}
 use Rattle.fields.specs.Fields.{unfield}
 use Rattle.bus.specs.Transfers.{Outcome, done, fault, stopped, untape, says}
 use Rattle.bus.proofs.Order.{ended}
@@ -55,15 +55,15 @@ module _ (want tag high low : ℕ) (bytes : List ℕ) where
   is_fault = eqb tag 0x02 && leb len want
 
   by_tag : (v : List ℕ) → take len bytes ≡ v → (a b : Bool)
-      → outcome_of (if a then Made false len else if b then Made true len else Stopped E.BadTape) bytes
-      ≡ (if a then done v else if b then fault v else stopped (no 15 []))
+      → outcome_of (when a then Made false len else when b then Made true len else Stopped E.BadTape) bytes
+      ≡ (when a then done v else when b then fault v else stopped (no 15 []))
   by_tag v e true b = ap done e
   by_tag v e false true = ap fault e
   by_tag v e false false = refl
 
   within : len ≤ length bytes → (a b : Bool) → (T a → T is_done) → (T b → T is_fault)
       → Within want (suc (suc (suc (length bytes))))
-      (if a then Made false len else if b then Made true len else Stopped E.BadTape)
+      (when a then Made false len else when b then Made true len else Stopped E.BadTape)
   unfolding is_done is_fault
   within h true b d f =
       (eqb→eq len want (both_right (eqb tag 0x01) (eqb len want) (d tt)), omega arith)

@@ -13,7 +13,7 @@ use Rattle.refusals.specs.Refusal.{Refusal, no, as_refusal}
 use Rattle.refusals.specs.declared.Error.{Error}
 use Rattle.frames.specs.Put.{put}
 use Rattle.frames.proofs.Put.{take_front}
-use Rattle.laws.specs.Choice.{if◌then◌else◌}
+use Rattle.laws.specs.Choice.{when◌then◌else◌}
 use Rattle.fields.specs.Fields.{field}
 use Rattle.bus.specs.Transfers.{Transfer, Outcome, stopped, Bus, bus_of}
 use Rattle.bus.specs.Transfers.{log_field, tape_field, wanted, moved, after, says, answered, outcome}
@@ -28,7 +28,7 @@ not_stopped true v r e = let z : ◌≡◌ {A = ℕ} 0 1 = cc in absurd (omega a
 not_stopped false v r e = let z : ◌≡◌ {A = ℕ} 0 1 = cc in absurd (omega arith)
 
 room_if : (f : Bool) (v : List ℕ) (o : Outcome) (p q : ℕ) (c : Bool) → leb p q ≡ c
-    → ended_as f v ≡ (if c then o else stopped (no 17 [])) → p ≤ q
+    → ended_as f v ≡ (when c then o else stopped (no 17 [])) → p ≤ q
 room_if f v o p q true e h = leb-true p q e
 room_if f v o p q false e h = not_stopped f v (no 17 []) h
 

@@ -5,7 +5,7 @@ use Rattle.refusals.specs.Refusal.{as_refusal, Answer, value, refused}
 use Rattle.refusals.specs.declared.Error.TheVariants as E
 use Rattle.frames.specs.Frames.{data_of}
 use Rattle.frames.specs.Put.{put}
-use Rattle.laws.specs.Choice.{if◌then◌else◌}
+use Rattle.laws.specs.Choice.{when◌then◌else◌}
 use Rattle.bus.specs.Transfers.{Transfer, Outcome, done, fault, stopped, Bus, bus_of, log_field, outcome, after}
 use Rattle.bus.specs.Raw.{Done, refuses, Read, gives, where_right}
 use Rattle.bus.specs.declared.Cursor.{Cursor}
@@ -15,8 +15,8 @@ use Rattle.raw.specs.declared.transfer.Reply.TheVariants.{Made, Stopped}
 
 abbrev pub judged : ℕ → ℕ → ℕ → Reply
 judged want tag len =
-    if eqb tag 0x01 && eqb len want then Made false len
-    else if eqb tag 0x02 && leb len want then Made true len
+    when eqb tag 0x01 && eqb len want then Made false len
+    else when eqb tag 0x02 && leb len want then Made true len
     else Stopped E.BadTape
 
 abbrev pub ended_as : Bool → List ℕ → Outcome

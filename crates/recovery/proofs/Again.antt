@@ -16,7 +16,7 @@ use Rattle.plan.specs.Steps.{InMv}
 use Rattle.plan.specs.Plan.{Values, Planned}
 use Rattle.plan.specs.declared.Config.{Config}
 use Rattle.plan.proofs.Accepted.{first}
-use Rattle.laws.specs.Choice.{if◌then◌else◌}
+use Rattle.laws.specs.Choice.{when◌then◌else◌}
 use Rattle.bq769x0.specs.Record.{Left, leaves, leaving, accepts, is_sound, with_calibration, with_shunt}
 use Rattle.procedure.specs.Init.{init_by}
 use Rattle.bq769x0.specs.declared.BQ769x0.{BQ769x0}
@@ -67,18 +67,18 @@ module _ (choose : Config → Answer InMv) (config : Config) (d : BQ769x0) (c : 
 
   -- ---- and one that is refused
   abbrev refused_left : Config → Refusal → Left Values
-  refused_left other r = leaving (if accepts (choose other) then with_calibration d' (calibration_of c) else d') r
+  refused_left other r = leaving (when accepts (choose other) then with_calibration d' (calibration_of c) else d') r
 
   refuses_by : (other : Config) (r : Refusal) (y : Answer InMv) → choose other ≡ y → plan_on choose other c ≡ refused r
       → ends other d' c' y (plan_on choose other c) ≡ reached (refused_left other r) (uncut c')
   refuses_by other r (refused q) e f =
       let same : q ≡ r = cc (sym (unplanned choose other c q e) ∙ f) in
       ap (λ (x : Refusal). reached (leaving d' x) (uncut c')) same
-      ∙ ap (λ (t : Bool). reached (leaving (if t then with_calibration d' (calibration_of c) else d') r) (uncut c')) (ap accepts (sym e))
+      ∙ ap (λ (t : Bool). reached (leaving (when t then with_calibration d' (calibration_of c) else d') r) (uncut c')) (ap accepts (sym e))
   refuses_by other r (value steps) e f =
       ap (ends other d' c' (value steps)) f
       ∙ ap (λ (adc : AdcTransferFunction). reached (leaving (with_calibration d' adc) r) (uncut c')) (same_calibration l m)
-      ∙ ap (λ (t : Bool). reached (leaving (if t then with_calibration d' (calibration_of c) else d') r) (uncut c')) (ap accepts (sym e))
+      ∙ ap (λ (t : Bool). reached (leaving (when t then with_calibration d' (calibration_of c) else d') r) (uncut c')) (ap accepts (sym e))
 
   pub stays_refused : (other : Config) (r : Refusal) → plan_on choose other c ≡ refused r
       → on_chip (init_by choose d' other) (uncut c') ≡ reached (refused_left other r) (uncut c')

@@ -16,7 +16,7 @@ use Rattle.frames.proofs.Put.{put_none}
 use Rattle.plan.specs.Steps.{InMv}
 use Rattle.plan.specs.Plan.{Values}
 use Rattle.plan.specs.declared.Config.{Config}
-use Rattle.laws.specs.Choice.{if◌then◌else◌}
+use Rattle.laws.specs.Choice.{when◌then◌else◌}
 use Rattle.bus.specs.Programs.{ret}
 use Rattle.bus.specs.Raw.{Done, sound, read_bytes, write_raw}
 use Rattle.bus.specs.declared.link.Link.{Link}
@@ -143,7 +143,7 @@ module _ (choose : Config → Answer InMv) (config : Config) (d : BQ769x0) (c : 
 
     module _ (w : Wired) (before : Now n d' w.chip) where
       abbrev bring : Bool → ℕ
-      bring whole = if whole then new_bytes d'.link.check (w.cuts 2) six' else 0
+      bring whole = when whole then new_bytes d'.link.check (w.cuts 2) six' else 0
 
       none_brought : (whole : Bool) → six' ≡ [] → bring whole ≡ 0
       none_brought true e = none_new d'.link.check (w.cuts 2) e
@@ -162,8 +162,8 @@ module _ (choose : Config → Answer InMv) (config : Config) (d : BQ769x0) (c : 
           (protect_leaves speaks inputs steps e (read_twice w) before)
 
       by_soundness : (t : Bool) → is_sound d' ≡ t
-          → Kept (max n (if t && (is_whole (w.cuts 0) && is_whole (w.cuts 1)) then new_bytes d'.link.check (w.cuts 2) six' else 0))
-          (on_chip (if not t then ret (leaving d' nine) else procedure.set_up choose d' config) w)
+          → Kept (max n (when t && (is_whole (w.cuts 0) && is_whole (w.cuts 1)) then new_bytes d'.link.check (w.cuts 2) six' else 0))
+          (on_chip (when not t then ret (leaving d' nine) else procedure.set_up choose d' config) w)
       by_soundness false e = kept_ret (max n 0) (refused nine) d' w (same_new n 0 refl before)
       by_soundness true e =
           let whole = is_whole (w.cuts 0) && is_whole (w.cuts 1) in

@@ -13,7 +13,7 @@ use Rattle.refusals.specs.Refusal.{Answer}
 use Rattle.frames.proofs.Put.{get_d_put, length_put}
 use Rattle.plan.specs.Steps.{InMv}
 use Rattle.plan.specs.declared.Config.{Config}
-use Rattle.laws.specs.Choice.{if◌then◌else◌}
+use Rattle.laws.specs.Choice.{when◌then◌else◌}
 use Rattle.bq769x0.specs.declared.BQ769x0.{BQ769x0}
 use Rattle.chip.specs.OnChip.{Matches}
 use Rattle.chip.specs.declared.Chip.{Chip}
@@ -60,14 +60,14 @@ module _ {choose : Config → Answer InMv} {config : Config} {d : BQ769x0} {c : 
   below_old i h = but_05 i (λ e. omega arith) ∙ old_below c.regs 6 bytes room i (omega arith)
 
   pub reg_05 : get_or c'.regs 0x05 0
-      ≡ (if l.on then bit_or (get_or c.regs 0x05 0) 0b0100_0000 else get_or c.regs 0x05 0)
+      ≡ (when l.on then bit_or (get_or c.regs 0x05 0) 0b0100_0000 else get_or c.regs 0x05 0)
   reg_05 = ap (λ (x : Chip). get_or x.regs 5 0) l.chip ∙ by l.on
     where
       old : get_or part 5 0 ≡ get_or c.regs 5 0
       old = old_below c.regs 6 bytes room 5 (omega arith)
 
       by : (on : Bool) → get_or (regs_left on n six' c.regs) 5 0
-          ≡ (if on then bit_or (get_or c.regs 5 0) 64 else get_or c.regs 5 0)
+          ≡ (when on then bit_or (get_or c.regs 5 0) 64 else get_or c.regs 5 0)
       by true =
           get_or-set_same part 5 _ 0 (omega (arith, length_put c.regs 6 bytes room, room))
           ∙ ap (λ (x : ℕ). bit_or x 64) old

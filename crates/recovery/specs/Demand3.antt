@@ -7,7 +7,7 @@ use Rattle.check_byte.specs.CheckByte.{Bytes}
 use Rattle.plan.specs.Steps.{InMv, steps_for}
 use Rattle.plan.specs.Plan.{Planned}
 use Rattle.plan.specs.declared.Config.{Config}
-use Rattle.laws.specs.Choice.{if◌then◌else◌}
+use Rattle.laws.specs.Choice.{when◌then◌else◌}
 use Rattle.bq769x0.specs.Record.{accepts, is_sound, with_calibration}
 use Rattle.bq769x0.specs.declared.BQ769x0.{BQ769x0}
 use Rattle.procedure.specs.Init.{init_by}
@@ -30,7 +30,7 @@ module _ {choose : Config → Answer InMv} {config : Config} {c : Chip} {d d' : 
   -- is read where the steps could be chosen.
   pub record Refuses (other : Config) (r : Refusal) (call : Call) : Type 0 where
     pub answer : call.gave.answer ≡ refused r
-    pub device : call.gave.device ≡ (if accepts (choose other) then with_calibration d' (calibration_of c) else d')
+    pub device : call.gave.device ≡ (when accepts (choose other) then with_calibration d' (calibration_of c) else d')
     pub chip : left_by (uncut c') call ≡ c'
 
   -- What runs leave, cut anywhere and any number of them, and what comes of the next one.

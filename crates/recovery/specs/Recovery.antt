@@ -11,7 +11,7 @@ use Rattle.plan.specs.Order.{◌and_then◌}
 use Rattle.plan.specs.Steps.{InMv}
 use Rattle.plan.specs.Plan.{Planned, plan_for}
 use Rattle.plan.specs.declared.Config.{Config}
-use Rattle.laws.specs.Choice.{if◌then◌else◌}
+use Rattle.laws.specs.Choice.{when◌then◌else◌}
 use Rattle.bq769x0.specs.Record.{accepts, is_sound, with_calibration, with_shunt}
 use Rattle.bq769x0.specs.declared.BQ769x0.{BQ769x0}
 use Rattle.chip.specs.Chip.{new_bytes, with_regs}
@@ -45,7 +45,7 @@ counted regs = set regs 0x05 (bit_or (get_or regs 0x05 0) bit6)
 
 -- the first n new, and 05 set or not
 abbrev pub regs_left : Bool → ℕ → List ℕ → List ℕ → List ℕ
-regs_left on n six regs = if on then counted (first_new n six regs) else first_new n six regs
+regs_left on n six regs = when on then counted (first_new n six regs) else first_new n six regs
 
 module _ (choose : Config → Answer InMv) (config : Config) (c : Chip) where
   -- the six bytes that are new; none where the configuration is refused
@@ -63,7 +63,7 @@ is_whole (some j) = false
 
 abbrev pub brought : BQ769x0 → (ℕ → Option ℕ) → List ℕ → ℕ
 brought d cuts six =
-    if is_sound d && (is_whole (cuts 0) && is_whole (cuts 1)) then new_bytes d.link.check (cuts 2) six else 0
+    when is_sound d && (is_whole (cuts 0) && is_whole (cuts 1)) then new_bytes d.link.check (cuts 2) six else 0
 
 module _ (choose : Config → Answer InMv) (config : Config) (d : BQ769x0) (c : Chip) (new : ℕ) where
   -- the record as it was; or with the chip's calibration, if the steps were chosen; or with the mark and the new shunt

@@ -6,7 +6,7 @@ use Rattle.refusals.specs.Refusal.{Answer}
 use Rattle.plan.specs.Steps.{InMv}
 use Rattle.plan.specs.Plan.{Values}
 use Rattle.plan.specs.declared.Config.{Config}
-use Rattle.laws.specs.Choice.{if◌then◌else◌}
+use Rattle.laws.specs.Choice.{when◌then◌else◌}
 use Rattle.bq769x0.specs.Record.{Left}
 use Rattle.bq769x0.specs.declared.BQ769x0.{BQ769x0}
 use Rattle.procedure.specs.Init.{init_by}
@@ -18,7 +18,7 @@ use Rattle.recovery.specs.Recovery.{six, brought}
 
 -- enough log
 abbrev pub enough : Bool → ℕ
-enough check = if check then 45 else 52
+enough check = when check then 45 else 52
 
 -- a call gives an answer, and the record then
 abbrev pub Call : Type 0

@@ -8,7 +8,7 @@ use Prim.Native.Nat.{ℕ, ◌+◌, ◌≤◌}
 use native.Mathlib.Omega.{arith}
 use lib.ListN.{length}
 use Rattle.refusals.specs.Refusal.{Refusal, Answer, value}
-use Rattle.laws.specs.Choice.{if◌then◌else◌}
+use Rattle.laws.specs.Choice.{when◌then◌else◌}
 use Rattle.bus.specs.Programs.{Prog, ret, bind, ◌or_leave◌, ◌>>=◌}
 use Rattle.bus.specs.Raw.{read_bytes, write_raw}
 use Rattle.bus.specs.declared.link.Link.{Link}
@@ -27,7 +27,7 @@ pub fine_ret : {A : Type 0} (Off : A → Type 0) (n : ℕ) (a : A) → Fine Off 
 fine_ret Off n a = record { quits = ends; short = nothing; logs = logs_ret n a }
 
 pub fine_if : {A : Type 0} {Off : A → Type 0} (n : ℕ) (t : Bool) {p q : Prog A} → Fine Off n p → Fine Off n q
-    → Fine Off n (if t then p else q)
+    → Fine Off n (when t then p else q)
 fine_if n true h k = h
 fine_if n false h k = k
 

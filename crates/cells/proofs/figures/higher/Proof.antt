@@ -5,7 +5,7 @@ use lib.IntN.{ℤ}
 use mir.Syntax.{w32}
 use mir.Val.{to_z, of_z}
 use mir.Facts.{to_z-of_z}
-use Rattle.laws.specs.Choice.{if◌then◌else◌}
+use Rattle.laws.specs.Choice.{when◌then◌else◌}
 use Rattle.bq769x0.specs.Figures.{higher}
 use Rattle.cells.proofs.figures.higher.Statement.{statement}
 use Rattle.cells.proofs.figures.higher.Tie as tie
@@ -15,7 +15,7 @@ module _ (s : tie.Start) where
   read = ap₂ higher (to_z-of_z s.ranges.a) (to_z-of_z s.ranges.b)
 
   abbrev by : Bool → ℤ
-  by t = if t then to_z w32 (of_z w32 s.args.b) else to_z w32 (of_z w32 s.args.a)
+  by t = when t then to_z w32 (of_z w32 s.args.b) else to_z w32 (of_z w32 s.args.a)
 
 returns : tie.Need-returns
 returns c = sym (ap (by c.before) c.if1.true) ∙ read c.before

@@ -9,7 +9,7 @@ use Rattle.bus.specs.Programs.{ret, Ran, on_tape}
 use Rattle.bus.specs.Raw.{Done, as_raw, refuses, write_raw}
 use Rattle.bq769x0.specs.declared.BQ769x0.{BQ769x0}
 use Rattle.units.specs.Flags.{bit}
-use Rattle.laws.specs.Choice.{if◌then◌else◌}
+use Rattle.laws.specs.Choice.{when◌then◌else◌}
 use Rattle.commands.specs.Commands.{sys_stat_reset}
 use Rattle.commands.proofs.Guard.{passed, stopped}
 use borrow.Author.Rules.{rules}
@@ -43,7 +43,7 @@ module _ (c : tie.Else1) where
   start = c.before.before.before.before
 
   by_bit : whole start ≡ on_tape
-      (if bit 6 (byte start) then ret (refuses 18) else write_raw (device start).link 0x00 (byte start ∷ []))
+      (when bit 6 (byte start) then ret (refuses 18) else write_raw (device start).link 0x00 (byte start ∷ []))
       (bus start)
   by_bit = sym (passed _ _ _ c.before.is_sound_is.ensures c.if1.false)
 
