@@ -5,7 +5,7 @@ ghost use Rattle.adc.specs.Conversion.{milliamperes, as_current};
 use refusals::Error;
 use units::{MicroOhms, MilliAmperes};
 
-#[derive(Drop)]
+#[derive(Clone, Copy)]
 pub enum CurrentAnswer {
     Flows(MilliAmperes),
     Refused(Error),

@@ -2,7 +2,7 @@
 ghost use Rattle.std.specs.Prelude.{◌≡◌, ◌<◌};
 ghost use Rattle.numbers.specs.Numbers.{◌÷↓◌, ◌%↓◌};
 
-#[derive(Drop)]
+#[derive(Clone, Copy)]
 pub(crate) struct Floor {
     pub quotient: i64,
     pub remainder: u16,

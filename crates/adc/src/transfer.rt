@@ -22,7 +22,7 @@ pub struct Limits {
     pub high: MilliVolts,
 }
 
-#[derive(Drop)]
+#[derive(Clone, Copy)]
 pub enum Asked {
     Reading(i64),
     Refused(Error),

@@ -11,21 +11,21 @@ use bus::link::Link;
 use refusals::Error;
 use units::{MicroOhms, MilliVolts};
 
-#[derive(Drop)]
+#[derive(Clone, Copy)]
 pub enum NewAnswer {
     Made,
     Refused(Error),
 }
 
 // A refused device has size 0, so that every call on it is refused too.
-#[derive(Drop)]
+#[derive(Clone, Copy)]
 pub struct New {
     pub answer: NewAnswer,
     pub device: BQ769x0,
 }
 
 // The same, without readings.
-#[derive(Drop)]
+#[derive(Clone, Copy)]
 pub struct NewHead {
     pub answer: NewAnswer,
     pub head: Head,

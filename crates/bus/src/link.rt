@@ -14,13 +14,13 @@ pub struct Link {
     pub x: u8,
 }
 
-#[derive(Drop)]
+#[derive(Clone, Copy)]
 pub enum RawAnswer {
     Done,
     Refused(Error),
 }
 
-#[derive(Drop)]
+#[derive(Clone, Copy)]
 pub struct Raw {
     pub answer: RawAnswer,
     pub at: Cursor,

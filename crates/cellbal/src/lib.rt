@@ -8,7 +8,7 @@ ghost use Rattle.cellbal.specs.Registers.{register_count, three_for, set_of};
 
 use refusals::Error;
 
-#[derive(Drop)]
+#[derive(Clone, Copy)]
 pub enum Judged {
     Allowed,
     Refused(Error),

@@ -22,7 +22,7 @@ pub enum Cut {
 }
 
 // The chip after a transfer, and how far the tape is filled.
-#[derive(Drop)]
+#[derive(Clone, Copy)]
 pub struct Answered {
     pub chip: Chip,
     pub end: usize,

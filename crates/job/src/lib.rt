@@ -17,7 +17,7 @@ pub mod seconds;
 
 pub const TAPE_AT: usize = 34;
 
-#[derive(Drop)]
+#[derive(Clone, Copy)]
 pub struct Device {
     pub x: u8,
     pub cells: u8,
@@ -25,25 +25,25 @@ pub struct Device {
     pub check: bool,
 }
 
-#[derive(Drop)]
+#[derive(Clone, Copy)]
 pub struct Job {
     pub device: Device,
     pub config: Config,
 }
 
-#[derive(Drop)]
+#[derive(Clone, Copy)]
 pub enum DeviceAnswer {
     Wanted(Device),
     Refused(Error),
 }
 
-#[derive(Drop)]
+#[derive(Clone, Copy)]
 pub enum ConfigAnswer {
     Wanted(Config),
     Refused(Error),
 }
 
-#[derive(Drop)]
+#[derive(Clone, Copy)]
 pub enum JobAnswer {
     Wanted(Job),
     Refused(Error),

@@ -5,7 +5,7 @@ ghost use Rattle.job.specs.Seconds.{as_seconds, seconds_for};
 
 use refusals::Error;
 
-#[derive(Drop)]
+#[derive(Clone, Copy)]
 pub enum SecondsAnswer {
     Seconds(u8),
     Refused(Error),

@@ -8,7 +8,7 @@ use crate::InitAnswer;
 use protection::range::OCDSCDRange;
 
 // The range, SCD A, OCD A, UV mV, OV mV; of a refusal the count of its figures, and then these; below zero in two's complement.
-#[derive(Drop)]
+#[derive(Clone, Copy)]
 pub struct InitNumbers(pub u32, pub u32, pub u32, pub u32, pub u32);
 
 fn range_number(range: OCDSCDRange) -> u32

@@ -44,21 +44,21 @@ pub struct Steps {
     pub ocd: OCDThreshold,
 }
 
-#[derive(Drop)]
+#[derive(Clone, Copy)]
 pub enum StepsAnswer {
     Chosen(Steps),
     Refused(Error),
 }
 
 // What setting up answers.
-#[derive(Drop)]
+#[derive(Clone, Copy)]
 pub enum InitAnswer {
     Ready(CalculatedValues),
     Refused(Error),
 }
 
 // The six bytes for registers 06 to 0B, zero where the plan is refused, and the values to report.
-#[derive(Drop)]
+#[derive(Clone, Copy)]
 pub struct Plan {
     pub answer: InitAnswer,
     pub regs: [u8; 6],

@@ -75,7 +75,7 @@ fn trip_code(adc: AdcTransferFunction, asked: MilliVolts) -> u8
 }
 
 // Whether both asked voltages are within what the trip registers can stand for.
-#[derive(Drop)]
+#[derive(Clone, Copy)]
 enum Within {
     Both,
     Refused(Error),
@@ -110,10 +110,10 @@ fn obtainable(asked: MilliVolts, limits: Limits) -> bool
 }
 
 // PROTECT1 (06), PROTECT2 (07) and PROTECT3 (08).
-#[derive(Drop)]
+#[derive(Clone, Copy)]
 struct Protect(u8, u8, u8);
 
-#[derive(Drop)]
+#[derive(Clone, Copy)]
 enum ProtectAnswer {
     Bytes(Protect),
     Refused(Error),

@@ -10,13 +10,13 @@ use bus::Cursor;
 use refusals::Error;
 
 // What the tape says to a transfer: made, with a fault or without, and so many bytes delivered; or not made.
-#[derive(Drop)]
+#[derive(Clone, Copy)]
 pub(crate) enum Reply {
     Made(bool, usize),
     Stopped(Error),
 }
 
-#[derive(Drop)]
+#[derive(Clone, Copy)]
 pub(crate) struct Moved {
     pub reply: Reply,
     pub at: Cursor,

@@ -7,7 +7,7 @@ ghost use Rattle.refusals.specs.Inside.{case_of, row_numbers};
 
 use units::MilliVolts;
 
-#[derive(Drop)]
+#[derive(Clone, Copy)]
 pub enum Error {
     CRCMismatch,
     I2CError,
@@ -36,11 +36,11 @@ pub enum Error {
 }
 
 // A refusal as numbers: its number, how many figures it names, and those; a figure that it does not name is 0.
-#[derive(Drop)]
+#[derive(Clone, Copy)]
 pub struct InNumbers(pub u8, pub u8, pub i32, pub i32);
 
 // A line of the table: the number, how many figures it names, and these, the register of 5 or the two voltages of 7 and 8.
-#[derive(Drop)]
+#[derive(Clone, Copy)]
 struct Row(u8, u8, u8, i32, i32);
 
 impl Error {

@@ -3,12 +3,12 @@ ghost use Rattle.std.specs.Prelude.{◌≡◌};
 ghost use Rattle.std.specs.Int.Bits.{bit_or};
 ghost use Rattle.units.specs.Flags.{bit, is_ok, all_flags};
 
-#[derive(Drop)]
+#[derive(Clone, Copy)]
 pub struct Stat {
     pub bits: u8,
 }
 
-#[derive(Drop)]
+#[derive(Clone, Copy)]
 pub struct SysStat {
     pub bits: u8,
 }

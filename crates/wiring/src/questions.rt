@@ -6,20 +6,20 @@ ghost use Rattle.wiring.specs.Questions.{inputs_for, as_inputs, listed, cell_fro
 use crate::tables;
 use refusals::Error;
 
-#[derive(Drop)]
+#[derive(Clone, Copy)]
 pub enum InputsAnswer {
     Listed,
     Refused(Error),
 }
 
 // As many inputs as the pack has cells, and 0 behind them; all 0 where the pack is refused.
-#[derive(Drop)]
+#[derive(Clone, Copy)]
 pub struct Fitted {
     pub answer: InputsAnswer,
     pub inputs: [u8; 15],
 }
 
-#[derive(Drop)]
+#[derive(Clone, Copy)]
 pub enum CellAnswer {
     Cell(u8),
     Refused(Error),
