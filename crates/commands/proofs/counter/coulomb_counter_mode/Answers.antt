@@ -1,0 +1,19 @@
+-- 9 by the first test, else the bits of the mode put.
+-- Assumes nothing.
+use mathlib.Core.Path.{ap, ◌∙◌}
+use mathlib.Core.Bool.{not}
+use Rattle.bus.specs.Raw.{as_raw}
+use Rattle.commands.proofs.OneRegister.{bits_are}
+use Rattle.commands.proofs.Guard.{passed, stopped}
+use Rattle.commands.proofs.counter.coulomb_counter_mode.Goals as goal
+
+pub returns-then-not-is_sound : goal.returns-then-not-is_sound
+returns-then-not-is_sound c =
+    stopped _ _ _ c.is_sound.ensures (ap not c.if-not-is_sound.true)
+    (ap as_raw c.refuse.ensures.0) c.refuse.ensures.1
+
+pub returns : goal.returns
+returns c =
+    c.change_bits.ensures
+    ∙ bits_are _ _ _ _ c.mode_bits-set.ensures
+    ∙ passed _ _ _ c.is_sound.ensures (ap not c.if-not-is_sound.false)
