@@ -21,7 +21,7 @@ use wiring::questions;
 use wiring::questions::CellAnswer;
 
 // What a call answered; NotMade where no call has the tag, or its value does not fit.
-#[derive(Clone, Copy)]
+#[derive(Drop)]
 pub(crate) enum Told {
     NotMade,
     Refused(Error),

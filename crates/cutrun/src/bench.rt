@@ -12,7 +12,7 @@ pub(crate) const MOST: usize = 8;
 pub(crate) const PLACES: usize = 64;
 
 // A chip, a record that speaks to it, and the call that is made.
-#[derive(Drop)]
+#[derive(Clone, Copy)]
 pub(crate) struct Start {
     pub chip: Chip,
     pub device: BQ769x0,
@@ -20,7 +20,7 @@ pub(crate) struct Start {
 }
 
 // Where the wire is cut: in a transfer, from 0, after so many of its bytes.
-#[derive(Drop)]
+#[derive(Clone, Copy)]
 pub(crate) struct Place {
     pub transfer: usize,
     pub bytes: usize,
@@ -69,18 +69,17 @@ pub(crate) struct Outcome {
 
 impl Outcome {
     // Whether its transfers have such a place.
-    pub(crate) fn has(self, place: Place) -> bool {
+    pub(crate) fn has(&self, place: Place) -> bool {
         place.transfer < self.bench.made
     }
 
     // After one byte more, up to all of the transfer's, and then in the next transfer.
-    pub(crate) fn next(self, place: Place) -> Place {
+    pub(crate) fn next(&self, place: Place) -> Place {
         let k = place.transfer;
         if MOST <= k {
             return place;
         }
-        let bench = self.bench;
-        if place.bytes < bench.sizes[k] {
+        if place.bytes < self.bench.sizes[k] {
             return Place {
                 transfer: k,
                 bytes: place.bytes.wrapping_add(1),

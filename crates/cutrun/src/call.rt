@@ -7,7 +7,7 @@ use plan::answer::InitNumbers;
 use plan::{Config, InitAnswer};
 use std::io;
 
-#[derive(Drop)]
+#[derive(Clone, Copy)]
 pub(crate) enum Call {
     Init(Config),
     // with the board's limit

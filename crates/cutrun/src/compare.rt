@@ -7,14 +7,12 @@ use chip::Chip;
 use plan::answer::InitNumbers;
 use units::MilliVolts;
 
-fn same_numbers(a: InitNumbers, b: InitNumbers) -> bool {
+fn same_numbers(a: &InitNumbers, b: &InitNumbers) -> bool {
     (a.0 == b.0) & (a.1 == b.1) & (a.2 == b.2) & (a.3 == b.3) & (a.4 == b.4)
 }
 
-fn same_answer(a: Left, b: Left) -> bool {
-    let a_numbers = a.numbers;
-    let b_numbers = b.numbers;
-    (a.number == b.number) & same_numbers(a_numbers, b_numbers)
+fn same_answer(a: &Left, b: &Left) -> bool {
+    (a.number == b.number) & same_numbers(&a.numbers, &b.numbers)
 }
 
 fn same_cells(a: [MilliVolts; 15], b: [MilliVolts; 15]) -> bool {
@@ -57,16 +55,10 @@ fn same_registers(a: Chip, b: Chip) -> bool {
     true
 }
 
-fn same_left(a: Left, b: Left) -> bool {
-    let a_device = a.device;
-    let b_device = b.device;
-    same_answer(a, b) & same_record(a_device, b_device)
+fn same_left(a: &Left, b: &Left) -> bool {
+    same_answer(a, b) & same_record(a.device, b.device)
 }
 
-pub(crate) fn same(a: Outcome, b: Outcome) -> bool {
-    let a_left = a.left;
-    let b_left = b.left;
-    let a_chip = a.bench.chip;
-    let b_chip = b.bench.chip;
-    same_left(a_left, b_left) & same_registers(a_chip, b_chip)
+pub(crate) fn same(a: &Outcome, b: &Outcome) -> bool {
+    same_left(&a.left, &b.left) & same_registers(a.bench.chip, b.bench.chip)
 }

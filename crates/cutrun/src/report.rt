@@ -9,7 +9,7 @@ use chip::Chip;
 use std::io;
 
 // The call after a cut: with the record that the cut left or with a new one.
-#[derive(Drop)]
+#[derive(Clone, Copy)]
 struct After {
     anew: bool,
     call: Call,
@@ -60,14 +60,13 @@ fn record(rt: &impl Print, device: BQ769x0) -> io::Result<()> {
     text::number(rt, device.shunt.0 as u64)
 }
 
-fn answer(rt: &impl Print, run: Outcome) -> io::Result<()> {
-    let left = run.left;
+fn answer(rt: &impl Print, run: &Outcome) -> io::Result<()> {
     text::words(rt, " answer")?;
-    text::number(rt, left.number as u64)
+    text::number(rt, run.left.number as u64)
 }
 
 // What a run from a start answers and leaves.
-fn left(rt: &impl Print, start: Start, run: Outcome) -> io::Result<()> {
+fn left(rt: &impl Print, start: Start, run: &Outcome) -> io::Result<()> {
     let device = run.left.device;
     let before = start.chip;
     let chip = run.bench.chip;
@@ -99,7 +98,7 @@ fn line(rt: &impl Print, name: &str, start: Start, place: Place) -> io::Result<(
     let cut = bench::run(start, place);
     title(rt, name, start)?;
     cut_at(rt, place)?;
-    left(rt, start, cut)?;
+    left(rt, start, &cut)?;
     text::words(rt, "\n")
 }
 
@@ -110,14 +109,14 @@ fn same(
     what: &str,
     start: Start,
     after: After,
-    whole: Outcome,
+    whole: &Outcome,
     place: Place,
 ) -> io::Result<bool> {
     let cut = bench::run(start, place);
     let chip = cut.bench.chip;
     let device = cut.left.device;
     let then = bench::run(after.on(chip, device), Place::none());
-    if compare::same(then, whole) {
+    if compare::same(&then, whole) {
         return Ok(true);
     }
     text::words(rt, what)?;
@@ -140,7 +139,7 @@ fn each(rt: &impl Print, name: &str, what: &str, start: Start, after: After) -> 
     let mut place = Place::first();
     for _ in 0..bench::PLACES {
         if first.has(place) {
-            tally = tally.counted(same(rt, name, what, start, after, whole, place)?);
+            tally = tally.counted(same(rt, name, what, start, after, &whole, place)?);
             place = first.next(place);
         }
     }
@@ -179,9 +178,9 @@ pub(crate) fn all(rt: &impl Print, name: &str, start: Start, other: Call) -> io:
     let lost = each(rt, name, "with a new record", start, anew)?;
     let last = each(rt, name, "otherwise", start, otherwise)?;
     title(rt, name, start)?;
-    left(rt, start, bench::run(start, Place::none()))?;
+    left(rt, start, &bench::run(start, Place::none()))?;
     counted(rt, kept, lost, last, call)?;
-    answer(rt, uncut(start, otherwise))?;
+    answer(rt, &uncut(start, otherwise))?;
     text::words(rt, "\n")
 }
 

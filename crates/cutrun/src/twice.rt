@@ -6,7 +6,7 @@ use crate::{bench, compare, report};
 use std::io;
 
 // On what a run left.
-fn after(run: Outcome, call: Call) -> Start {
+fn after(run: &Outcome, call: Call) -> Start {
     let chip = run.bench.chip;
     let device = run.left.device;
     Start { chip, device, call }
@@ -18,12 +18,12 @@ fn pair(
     first: Place,
     second: Place,
     start: Start,
-    whole: Outcome,
+    whole: &Outcome,
 ) -> io::Result<bool> {
     let call = start.call;
     let cut = bench::run(start, second);
-    let again = bench::run(after(cut, call), Place::none());
-    let same = compare::same(again, whole);
+    let again = bench::run(after(&cut, call), Place::none());
+    let same = compare::same(&again, whole);
     if !same {
         text::words(rt, "cut twice")?;
         report::cut_at(rt, first)?;
@@ -37,7 +37,7 @@ fn each_second(
     rt: &impl Print,
     first: Place,
     start: Start,
-    whole: Outcome,
+    whole: &Outcome,
     tally: Tally,
 ) -> io::Result<Tally> {
     let mut out = tally;
@@ -51,14 +51,14 @@ fn each_second(
     Ok(out)
 }
 
-fn each_first(rt: &impl Print, start: Start, whole: Outcome) -> io::Result<Tally> {
+fn each_first(rt: &impl Print, start: Start, whole: &Outcome) -> io::Result<Tally> {
     let call = start.call;
     let mut tally = Tally::none();
     let mut first = Place::first();
     for _ in 0..bench::PLACES {
         if whole.has(first) {
             let cut = bench::run(start, first);
-            tally = each_second(rt, first, after(cut, call), whole, tally)?;
+            tally = each_second(rt, first, after(&cut, call), whole, tally)?;
             first = whole.next(first);
         }
     }
@@ -67,7 +67,7 @@ fn each_first(rt: &impl Print, start: Start, whole: Outcome) -> io::Result<Tally
 
 pub(crate) fn all(rt: &impl Print, name: &str, start: Start) -> io::Result<()> {
     let whole = bench::run(start, Place::none());
-    let tally = each_first(rt, start, whole)?;
+    let tally = each_first(rt, start, &whole)?;
     report::title(rt, name, start)?;
     text::words(rt, ": cut twice at")?;
     text::number(rt, tally.tried)?;
