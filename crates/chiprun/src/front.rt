@@ -91,14 +91,12 @@ fn taken(tag: u8, value: &[u8], chip: Chip, cuts: &mut [usize]) -> Chip {
 // Those from a register on, up to FF.
 fn with_registers(chip: Chip, reg: u8, bytes: &[u8]) -> Chip {
     let mut out = chip;
-    let mut i = 0;
-    while i < bytes.len() {
+    for i in 0..bytes.len() {
         let at = reg as usize + i;
         if 255 < at {
             return out;
         }
         out = out.set(at as u8, bytes[i]);
-        i += 1;
     }
     out
 }
@@ -136,9 +134,5 @@ pub(crate) fn put_device(device: Device, out: &mut [u8], at: usize) {
     if out.len() - 7 < at {
         return;
     }
-    let mut i = 0;
-    while i < 7 {
-        out[at + i] = field[i];
-        i += 1;
-    }
+    out[at..at + 7].copy_from_slice(&field);
 }

@@ -51,10 +51,8 @@ fn cells(value: &[u8], at: usize) -> [MilliVolts; 15]
     requires { at + 60 ≤ length value.now }
 {
     let mut cells = [MilliVolts(0); 15];
-    let mut i = 0;
-    while i < 15 {
+    for i in 0..15 {
         cells[i] = millivolts(value, at + 4 * i);
-        i += 1;
     }
     cells
 }

@@ -1,0 +1,6 @@
+-- `call_text::refusing::calls` ends: each field is longer than nothing, and lies within the input.
+use Rattle.std.proofs.Common.{length, ◌-◌}
+use Rattle.call_text.proofs.refusing.calls.Given as goal
+
+abbrev pub decreases-loop-at : goal.decreases-loop-at
+decreases-loop-at g l = length l.input - l.at
