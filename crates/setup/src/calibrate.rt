@@ -64,8 +64,9 @@ pub(crate) fn calibrate(
         (calibrated_by d (as_raw result.answer) gain1_offset.new gain2.new) result.at }
 {
     let first = raw::short::read_two(link, BQ769x0::ADCGAIN1, gain1_offset, tape, log, at);
+    let answer = first.answer;
     let next = first.at;
-    let RawAnswer::Done = first.answer else {
+    let RawAnswer::Done = answer else {
         return first;
     };
     raw::short::read_one(link, 0x59, gain2, tape, log, next)
