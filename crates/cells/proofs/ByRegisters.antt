@@ -22,7 +22,7 @@ use Rattle.wiring.proofs.Rows.{as_many, row_within}
 use Rattle.wiring.proofs.Undone.{input_at, every_pack_is}
 use Rattle.bus.specs.Transfers.{Bus}
 use Rattle.bus.specs.Programs.{Ran, ran, on_tape}
-use Rattle.bus.specs.Raw.{Done, as_raw, read_bytes}
+use Rattle.bus.specs.Raw.{as_raw, read_bytes}
 use Rattle.bus.specs.declared.link.RawAnswer.TheVariants as R
 use Rattle.bus.proofs.Sized.{bytes_size}
 use Rattle.bq769x0.specs.Record.{is_sound}

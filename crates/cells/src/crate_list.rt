@@ -98,7 +98,7 @@ pub fn cells_of<'a>(device: BQ769x0, list: &'a mut [i32]) -> &'a mut [i32]
 // The first n of the cells, over the list's first n.
 fn fill(n: usize, cells: [MilliVolts; 15], list: &mut [i32])
     requires { (n ≤ 15) × (n ≤ length list.old) }
-    ensures { list.new ≡ first_cells n cells over (λ x. x.now) list.entry }
+    ensures { list.new ≡ first_cells n cells over list.old }
 {
     let mut i = 0;
     while i < n {
@@ -112,7 +112,7 @@ fn fill(n: usize, cells: [MilliVolts; 15], list: &mut [i32])
 // The first n inputs, over the list's first n.
 fn list_first(n: usize, inputs: &[i32; 16], list: &mut [i32])
     requires { (n ≤ 15) × (n ≤ length inputs.now) × (n ≤ length list.old) }
-    ensures { list.new ≡ take n inputs.now over (λ x. x.now) list.entry }
+    ensures { list.new ≡ take n inputs.now over list.old }
 {
     let mut i = 0;
     while i < n {

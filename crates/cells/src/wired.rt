@@ -92,8 +92,8 @@ fn read_wired(
 fn show(n: usize, fitted: [u8; 15], millivolts: &[i32; 16], inputs: &mut [u8], list: &mut [i32])
     requires n_bound { (n ≤ 15) × (n ≤ length inputs.old) × (n ≤ length list.old) }
     requires by_index { (k : ℕ) → k < n → (1 ≤ get_or fitted k 0) × (get_or fitted k 0 ≤ 15) }
-    ensures { (inputs.new ≡ take n fitted over (λ x. x.now) inputs.entry)
-        × (list.new ≡ map (of_input millivolts.now) (take n fitted) over (λ x. x.now) list.entry) }
+    ensures { (inputs.new ≡ take n fitted over inputs.old)
+        × (list.new ≡ map (of_input millivolts.now) (take n fitted) over list.old) }
 {
     let mut i = 0;
     while i < n {

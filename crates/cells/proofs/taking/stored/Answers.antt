@@ -1,0 +1,23 @@
+-- `cells::taking::stored` meets its contract: a turn goes on from i cells to i + 1.
+-- Assumes nothing.
+use Rattle.std.proofs.Common.{◌≡◌, pos, ap, ◌∙◌, arith, w32}
+use Rattle.laws.proofs.Lists.{map_take}
+use Rattle.laws.proofs.Over.{map_next}
+use Rattle.numbers.proofs.Signed.{read_back}
+use Rattle.procedure.specs.Inputs.{as_cell}
+use Rattle.cells.proofs.taking.stored.Goals as goal
+
+pub loop-i-preserved : goal.loop-i-preserved
+loop-i-preserved c =
+    let l = c.loop-i in
+    let a = c.args in (
+      omega arith,
+      map_next as_cell a.inputs.now a.cells l.i (pos 0) l.invariant.1 (ap as_cell (read_back w32 _ (omega arith))) (omega arith) (omega arith),
+      l.invariant.2,
+    )
+
+pub returns : goal.returns
+returns c =
+    let a = c.args in
+    let e : c.loop-i.i ≡ a.n = omega arith in
+    c.loop-i.invariant.1 ∙ rw (e, map_take as_cell a.n a.inputs.now)
