@@ -6,7 +6,7 @@ use mathlib.Core.List.{List, []}
 use Prim.Native.Nat.{ℕ}
 use lib.IntN.{ℤ}
 use lib.ListN.{length}
-use Rattle.refusals.specs.Refusal.{Refusal, Answer, value, refused, no}
+use Rattle.refusals.specs.Refusal.{Refusal, Answer, no}
 use Rattle.plan.specs.Plan.{Values, as_init}
 use Rattle.bus.specs.Transfers.{Bus, bus_of}
 use Rattle.bus.specs.Raw.{as_raw}
