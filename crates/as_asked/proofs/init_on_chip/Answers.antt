@@ -1,0 +1,7 @@
+-- `init` on the model chip: by the promise of the call.
+-- Assumes nothing.
+use Rattle.as_asked.proofs.OnChip.{on_every_chip}
+use Rattle.as_asked.proofs.init_on_chip.Goals as goal
+
+pub returns : goal.returns
+returns c = on_every_chip _ _ _ c.init.ensures

@@ -1,0 +1,11 @@
+-- `enable_balancing` as its register shows it: by the promise of the call, on a tape that is of bytes, being lent to code.
+-- Assumes nothing.
+use Rattle.std.proofs.Common.{ℕ}
+use Rattle.as_asked.proofs.Bytes.{of_bytes}
+use Rattle.as_asked.proofs.Commands.{balancing_shows}
+use Rattle.as_asked.proofs.registers.enable_balancing.Goals as goal
+
+pub returns : goal.returns
+returns c =
+    let bytes = of_bytes c.args.tape.now (λ (i : ℕ). (c.type_inv.tape i).fits) in
+    balancing_shows c.args.device c.args.tape.now c.args.log.now c.args.at c.enable_balancing.result _ bytes c.args.cells c.enable_balancing.ensures
