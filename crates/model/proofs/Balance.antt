@@ -38,7 +38,7 @@ use Rattle.chip.proofs.InStep.{InStep, step_write}
 use Rattle.chip.proofs.RegisterBytes.{append_bytes}
 use Rattle.chip.proofs.Shows.{held_put}
 use Rattle.chip.proofs.Uncut.{write_uncut}
-use Rattle.runs.specs.Calls.{Call, Calls, none_yet, one_more, most_of, on, left_by}
+use Rattle.runs.specs.Calls.{Call, Calls, none_yet, one_more, most_of, on}
 use Rattle.runs.proofs.Calls.{chip_is, gave_is, alike, by_log}
 use Rattle.runs.proofs.Fine.{Fine}
 use Rattle.model.specs.Balance.{new_registers, brought, chip_left, Run, Sets, input_on, set_on, EndsAlike, FirstNew, Recovers, Survives, Demand3}
