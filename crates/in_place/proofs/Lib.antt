@@ -1,5 +1,1 @@
 pub mod Agree
-mod Back
-mod Read
-mod Steps
-mod Ways
