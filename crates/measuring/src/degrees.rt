@@ -5,7 +5,7 @@ ghost use Rattle.measuring.specs.Temperature.{degrees};
 use commands::control::TemperatureSource;
 use units::DegreesCentigrade;
 
-#[derive(Drop)]
+#[derive(Clone, Copy)]
 pub enum Temperature {
     InternalDie(DegreesCentigrade),
     ExternalThermistor(DegreesCentigrade),

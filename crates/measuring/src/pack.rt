@@ -12,19 +12,19 @@ use bus::Cursor;
 use refusals::Error;
 use units::MilliVolts;
 
-#[derive(Drop)]
+#[derive(Clone, Copy)]
 pub struct CurrentRead {
     pub answer: CurrentAnswer,
     pub at: Cursor,
 }
 
-#[derive(Drop)]
+#[derive(Clone, Copy)]
 pub enum VoltageAnswer {
     Volts(MilliVolts),
     Refused(Error),
 }
 
-#[derive(Drop)]
+#[derive(Clone, Copy)]
 pub struct VoltageRead {
     pub answer: VoltageAnswer,
     pub at: Cursor,

@@ -12,13 +12,13 @@ use commands::control;
 use commands::control::{SourceAnswer, TemperatureSource};
 use refusals::Error;
 
-#[derive(Drop)]
+#[derive(Clone, Copy)]
 pub enum TemperatureAnswer {
     Degrees(Temperature),
     Refused(Error),
 }
 
-#[derive(Drop)]
+#[derive(Clone, Copy)]
 pub struct TemperatureRead {
     pub answer: TemperatureAnswer,
     pub at: Cursor,

@@ -7,13 +7,13 @@ use bus::Cursor;
 use bus::link::{Link, RawAnswer};
 use refusals::Error;
 
-#[derive(Drop)]
+#[derive(Clone, Copy)]
 pub(crate) enum WordAnswer {
     Word(u16),
     Refused(Error),
 }
 
-#[derive(Drop)]
+#[derive(Clone, Copy)]
 pub(crate) struct WordRead {
     pub answer: WordAnswer,
     pub at: Cursor,
