@@ -123,29 +123,29 @@ every_function = record {
     new_sound x address n check e,
     subst⁻¹ (λ (l : Left Done). Fits l.device) e (new_fits x address n check),
   );
-  bq769x0::BQ769x0::of_head = λ head r e. subst⁻¹ Fits e (unread_fits head);
-  bq769x0::BQ769x0::of_parts = λ link n adc shunt mark r e. subst⁻¹ Fits e (unread_fits (head_of (of_parts link n adc shunt mark)));
-  bench::record_by = λ x n address check gain b51 shunt r e.
+  «bq769x0::BQ769x0::of_head» = λ head r e. subst⁻¹ Fits e (unread_fits head);
+  «bq769x0::BQ769x0::of_parts» = λ link n adc shunt mark r e. subst⁻¹ Fits e (unread_fits (head_of (of_parts link n adc shunt mark)));
+  «bench::record_by» = λ x n address check gain b51 shunt r e.
       subst⁻¹ Fits e (unread_fits (head_of (record_by x n address check gain b51 shunt)));
-  bq769x0::BQ769x0::with_head = λ d head r e count h.
+  «bq769x0::BQ769x0::with_head» = λ d head r e count h.
       subst⁻¹ Fits e (subst⁻¹ (λ (n : ℕ). d.readings.spread ≡ spread_of (first_cells n d.readings.wired)) count h);
-  bq769x0::BQ769x0::store_calibration = λ d adc r e h. subst⁻¹ Fits e h;
-  bq769x0::BQ769x0::store_readings = λ d readings r e h. subst⁻¹ Fits e h;
-  setup::calibrate::read_adc_characteristics = λ d b r log e.
+  «bq769x0::BQ769x0::store_calibration» = λ d adc r e h. subst⁻¹ Fits e h;
+  «bq769x0::BQ769x0::store_readings» = λ d readings r e h. subst⁻¹ Fits e h;
+  «setup::calibrate::read_adc_characteristics» = λ d b r log e.
       subst⁻¹ (λ (x : Ran (Left Done)). KeptWhole d x.answer.device) e
       ((read_adc_sound d b, read_adc_fits d b), read_adc_readings d.readings d b refl);
   «setup::init» = λ d config b r log e. init_kept d config b e;
   «recovered::init» = λ d config b r log e. init_kept d config b e;
-  in_place::init = λ d d' config b r log e. init_kept d config b e;
-  cells::crate_list::cell_voltages = λ d list list' b r log e. cells_kept d list b e;
+  «in_place::init» = λ d d' config b r log e. init_kept d config b e;
+  «cells::crate_list::cell_voltages» = λ d list list' b r log e. cells_kept d list b e;
   «cells::wired::wired» = λ d inputs inputs' list list' b r log e. wired_kept d inputs list b e;
-  in_place::cell_voltages = λ d d' list list' b r log e. cells_kept d list b e;
-  in_place::wired = λ d d' inputs inputs' list list' b r log e. wired_kept d inputs list b e;
-  job_setup::init = λ job b r log e.
+  «in_place::cell_voltages» = λ d d' list list' b r log e. cells_kept d list b e;
+  «in_place::wired» = λ d d' inputs inputs' list list' b r log e. wired_kept d inputs list b e;
+  «job_setup::init» = λ job b r log e.
       subst⁻¹ (λ (x : Ran (Left Values)). Fits x.answer.device) e (on_tape_lem (keeps.Kept Fits) (job_init job) (job_fits job) b);
-  firmware::init_cells = λ job list list' b r log e.
+  «firmware::init_cells» = λ job list list' b r log e.
       subst⁻¹ (λ (x : Ran Listed). Fits x.answer.left.device) e (on_tape_lem FitListed (job_cells job list) (job_cells_fit job list) b);
-  firmware::init_wired = λ job inputs inputs' list list' b r log e.
+  «firmware::init_wired» = λ job inputs inputs' list list' b r log e.
       subst⁻¹ (λ (x : Ran Beside). Fits x.answer.listed.left.device) e
       (on_tape_lem FitBeside (job_wired job inputs list) (job_wired_fits job inputs list) b);
 }

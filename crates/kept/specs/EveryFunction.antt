@@ -51,47 +51,47 @@ pub record EveryFunction : Type 0 where
   -- ---- what makes a record: nothing is read yet
   pub «bq769x0::BQ769x0::new» : (x address n : ℕ) (check : Bool) (r : New) → as_new r ≡ new_for x address n check
       → (as_made r.answer ≡ value tt → is_sound r.device ≡ true) × Fits r.device
-  pub bq769x0::BQ769x0::of_head : (head : Head) (r : BQ769x0) → r ≡ with_head head unread → Fits r
-  pub bq769x0::BQ769x0::of_parts : (link : Link) (n : ℕ) (adc : AdcTransferFunction) (shunt : MicroOhms) (mark : Bool) (r : BQ769x0)
+  pub «bq769x0::BQ769x0::of_head» : (head : Head) (r : BQ769x0) → r ≡ with_head head unread → Fits r
+  pub «bq769x0::BQ769x0::of_parts» : (link : Link) (n : ℕ) (adc : AdcTransferFunction) (shunt : MicroOhms) (mark : Bool) (r : BQ769x0)
       → r ≡ of_parts link n adc shunt mark → Fits r
-  pub bench::record_by : (x n address : ℕ) (check : Bool) (gain b51 shunt : ℕ) (r : BQ769x0)
+  pub «bench::record_by» : (x n address : ℕ) (check : Bool) (gain b51 shunt : ℕ) (r : BQ769x0)
       → r ≡ record_by x n address check gain b51 shunt → Fits r
   -- ---- what stores a part of one: a head of the same count, and readings whose figures are right
-  pub bq769x0::BQ769x0::with_head : (d : BQ769x0) (head : Head) (r : BQ769x0) → r ≡ with_head head d.readings
+  pub «bq769x0::BQ769x0::with_head» : (d : BQ769x0) (head : Head) (r : BQ769x0) → r ≡ with_head head d.readings
       → head.cell_count ≡ d.cell_count → Fits d → Fits r
-  pub bq769x0::BQ769x0::store_calibration : (d : BQ769x0) (adc : AdcTransferFunction) (r : BQ769x0) → r ≡ with_calibration d adc
+  pub «bq769x0::BQ769x0::store_calibration» : (d : BQ769x0) (adc : AdcTransferFunction) (r : BQ769x0) → r ≡ with_calibration d adc
       → Fits d → Fits r
-  pub bq769x0::BQ769x0::store_readings : (d : BQ769x0) (readings : Readings) (r : BQ769x0) → r ≡ with_readings d readings
+  pub «bq769x0::BQ769x0::store_readings» : (d : BQ769x0) (readings : Readings) (r : BQ769x0) → r ≡ with_readings d readings
       → readings.spread ≡ spread_of (first_cells d.cell_count readings.wired) → Fits r
   -- ---- setting up, with any calibration, the first time or again: the readings are as before
-  pub setup::calibrate::read_adc_characteristics : (d : BQ769x0) (b : Bus) (r : Calibrated) (log : List ℕ)
+  pub «setup::calibrate::read_adc_characteristics» : (d : BQ769x0) (b : Bus) (r : Calibrated) (log : List ℕ)
       → ran (leaves (as_raw r.answer) r.device) b.tape log r.at ≡ on_tape (read_adc_characteristics d) b
       → KeptWhole d r.device
   pub «setup::init» : InitKeeps
   pub «recovered::init» : InitKeeps
-  pub in_place::init : (d d' : BQ769x0) (config : Config) (b : Bus) (r : Answered) (log : List ℕ)
+  pub «in_place::init» : (d d' : BQ769x0) (config : Config) (b : Bus) (r : Answered) (log : List ℕ)
       → ran (leaves (as_init r.answer) d') b.tape log r.at ≡ on_tape (init_by steps_for d config) b
       → KeptWhole d d'
   -- ---- the cells, by either list
-  pub cells::crate_list::cell_voltages : (d : BQ769x0) (list list' : List ℤ) (b : Bus) (r : Cells) (log : List ℕ)
+  pub «cells::crate_list::cell_voltages» : (d : BQ769x0) (list list' : List ℤ) (b : Bus) (r : Cells) (log : List ℕ)
       → ran (filled (as_raw r.answer) r.device list') b.tape log r.at ≡ on_tape (cell_voltages d list) b
       → Kept d r.device
   pub «cells::wired::wired» : (d : BQ769x0) (inputs inputs' : List ℕ) (list list' : List ℤ) (b : Bus) (r : Cells) (log : List ℕ)
       → ran (shown (as_raw r.answer) r.device inputs' list') b.tape log r.at ≡ on_tape (wired d inputs list) b
       → Kept d r.device
-  pub in_place::cell_voltages : (d d' : BQ769x0) (list list' : List ℤ) (b : Bus) (r : Raw) (log : List ℕ)
+  pub «in_place::cell_voltages» : (d d' : BQ769x0) (list list' : List ℤ) (b : Bus) (r : Raw) (log : List ℕ)
       → ran (filled (as_raw r.answer) d' list') b.tape log r.at ≡ on_tape (cell_voltages d list) b
       → Kept d d'
-  pub in_place::wired : (d d' : BQ769x0) (inputs inputs' : List ℕ) (list list' : List ℤ) (b : Bus) (r : Raw) (log : List ℕ)
+  pub «in_place::wired» : (d d' : BQ769x0) (inputs inputs' : List ℕ) (list list' : List ℤ) (b : Bus) (r : Raw) (log : List ℕ)
       → ran (shown (as_raw r.answer) d' inputs' list') b.tape log r.at ≡ on_tape (wired d inputs list) b
       → Kept d d'
   -- ---- a job: made, set up and read
-  pub job_setup::init : (job : List ℕ) (b : Bus) (r : Init) (log : List ℕ)
+  pub «job_setup::init» : (job : List ℕ) (b : Bus) (r : Init) (log : List ℕ)
       → ran (leaves (as_init r.answer) r.device) b.tape log r.at ≡ on_tape (job_init job) b
       → Fits r.device
-  pub firmware::init_cells : (job list list' : List ℕ) (b : Bus) (r : Init) (log : List ℕ)
+  pub «firmware::init_cells» : (job list list' : List ℕ) (b : Bus) (r : Init) (log : List ℕ)
       → ran (listed (as_init r.answer) r.device list') b.tape log r.at ≡ on_tape (job_cells job list) b
       → Fits r.device
-  pub firmware::init_wired : (job inputs inputs' list list' : List ℕ) (b : Bus) (r : Init) (log : List ℕ)
+  pub «firmware::init_wired» : (job inputs inputs' list list' : List ℕ) (b : Bus) (r : Init) (log : List ℕ)
       → ran (beside (as_init r.answer) r.device inputs' list') b.tape log r.at ≡ on_tape (job_wired job inputs list) b
       → Fits r.device
