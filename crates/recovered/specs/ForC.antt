@@ -5,7 +5,7 @@ use Rattle.plan.specs.declared.answer.InitNumbers.{InitNumbers}
 use Rattle.job.specs.Jobs.{device_of}
 use Rattle.bus.specs.Transfers.{start}
 use Rattle.bus.specs.Programs.{Prog, ret, bind}
-use Rattle.bus.specs.Lent.{Lent}
+use Rattle.bus.specs.Lent.{Lent, LentMut}
 use Rattle.bus.specs.declared.link.Link.{Link}
 use Rattle.runs.specs.Calls.{Call, lent_call}
 use Rattle.firmware.specs.Handed.{tape_used, log_used, numbers_in}
@@ -20,7 +20,7 @@ abbrev pub telling : {A : Type 0} → (A → Told) → Prog A → Prog Told
 telling told p = bind p λ a. ret (told a)
 
 -- a call with this tape and log; the number that it returned, and out and the log then
-abbrev pub call_for_c : Lent → Lent → ℕ → List ℕ → Call Told
+abbrev pub call_for_c : Lent → LentMut → ℕ → List ℕ → Call Told
 call_for_c tape log number out =
     lent_call tape log start (record { number = number; numbers = numbers_in out })
     (record { tape = tape_used out; log = log_used out })
