@@ -46,7 +46,8 @@ returns-then-not-device c =
 pub returns-then-list-device : goal.returns-then-list-device
 returns-then-list-device c =
     rw (c.refuse-then-list-device.ensures.0, c.refuse-then-list-device.ensures.1, c.refuse-then-list-device.ensures.2)
-    (sym ((tests (goal.at.returns-then-list-device c).Start).cramped (sym c.if-not-is_sound.ensures) (not-false _ c.if-not-device.false) c.if-list-device.true))
+    (sym ((tests (goal.at.returns-then-list-device c).Start).cramped (sym c.if-not-is_sound.ensures) (not-false _ c.if-not-device.false)
+    c.if-list-device.true))
 
 pub returns : goal.returns
 returns c =

@@ -1,3 +1,4 @@
+-- What stands in the list is the first i numbers over what stood there.
 use mathlib.Core.Path.{◌≡◌}
 use Prim.Native.Nat.{◌-◌, ◌≤◌}
 use lib.ListN.{length, take}

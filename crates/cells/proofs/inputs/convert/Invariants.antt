@@ -1,3 +1,4 @@
+-- The first k inputs are held, eight at a time.
 use mathlib.Core.Path.{◌≡◌}
 use Prim.Native.Nat.{◌-◌, ◌%◌, ◌≤◌}
 use Rattle.cells.specs.Inside.{Held}

@@ -1,3 +1,4 @@
+-- The first k + i inputs are held.
 use Prim.Native.Nat.{◌+◌, ◌-◌, ◌≤◌}
 use Rattle.cells.specs.Inside.{Held}
 use Rattle.cells.proofs.inputs.convert_eight.Given as goal

@@ -1,3 +1,4 @@
+-- The first i inputs' cells, over those held.
 use mathlib.Core.Path.{◌≡◌}
 use Prim.Native.Nat.{◌-◌, ◌≤◌}
 use lib.ListN.{length, take}

@@ -64,4 +64,5 @@ pub returns : goal.returns
 returns c =
     let tests = tests (goal.at.returns c).Start in
     c.read_wired.ensures
-    ∙ sym (tests.roomy (sym c.if-not-is_sound.ensures) (not-false _ c.if-not-device.false) (omega (arith, c.if-inputs-device.false, c.if-list-device.false)))
+    ∙ sym (tests.roomy (sym c.if-not-is_sound.ensures) (not-false _ c.if-not-device.false)
+    (omega (arith, c.if-inputs-device.false, c.if-list-device.false)))
