@@ -14,7 +14,7 @@ pub mod state;
 
 // The calls on a record, a log and a cursor, and what they leave.
 pub fn print(
-    rt: &(impl Print + Eprint),
+    rt: &HostRuntime,
     input: &[u8],
     tape_at: usize,
     state: State,
@@ -29,7 +29,7 @@ pub fn print(
 
 // One record, one tape, one log.
 pub fn in_turn(
-    rt: &(impl Print + Eprint),
+    rt: &HostRuntime,
     input: &[u8],
     tape: &[u8],
     state: State,
@@ -58,7 +58,7 @@ pub fn in_turn(
 }
 
 fn call(
-    rt: &(impl Print + Eprint),
+    rt: &HostRuntime,
     number: usize,
     tag: u8,
     value: &[u8],

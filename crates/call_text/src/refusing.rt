@@ -9,12 +9,7 @@ use refusals::Error;
 use std::io;
 
 // A job whose head is none, by where its field 20 and its calls should begin.
-pub fn job(
-    rt: &(impl Print + Eprint),
-    input: &[u8],
-    device_at: usize,
-    calls_at: usize,
-) -> io::Result<()> {
+pub fn job(rt: &HostRuntime, input: &[u8], device_at: usize, calls_at: usize) -> io::Result<()> {
     if input.len() < device_at {
         return Ok(());
     }
@@ -26,7 +21,7 @@ pub fn job(
 }
 
 // The first field that is no call is at fault.
-pub fn calls(rt: &(impl Print + Eprint), input: &[u8], calls_at: usize) -> io::Result<()> {
+pub fn calls(rt: &HostRuntime, input: &[u8], calls_at: usize) -> io::Result<()> {
     let mut at = calls_at;
     while at < input.len() {
         let found = calls::field_at(input, at);
@@ -46,7 +41,7 @@ pub fn calls(rt: &(impl Print + Eprint), input: &[u8], calls_at: usize) -> io::R
 }
 
 // The field at a place, or field 3F where the job ends there.
-pub fn field_at(rt: &(impl Print + Eprint), input: &[u8], at: usize) -> io::Result<()> {
+pub fn field_at(rt: &HostRuntime, input: &[u8], at: usize) -> io::Result<()> {
     let tag = if at < input.len() {
         input[at]
     } else {
@@ -57,7 +52,7 @@ pub fn field_at(rt: &(impl Print + Eprint), input: &[u8], at: usize) -> io::Resu
 
 // A call on a state, which left the position `next`.
 pub(crate) fn call(
-    rt: &(impl Print + Eprint),
+    rt: &HostRuntime,
     e: Error,
     number: usize,
     tag: u8,
@@ -73,7 +68,7 @@ pub(crate) fn call(
 }
 
 fn wants(
-    rt: &(impl Print + Eprint),
+    rt: &HostRuntime,
     e: Error,
     number: usize,
     tag: u8,

@@ -10,43 +10,43 @@ use std::io;
 pub(crate) fn show(rt: &impl Print, told: Told, lent: &Lent, count: usize) -> io::Result<()> {
     match told {
         Told::NotMade | Told::Refused(_) => Ok(()),
-        Told::Done => text::words(rt, "done\n"),
+        Told::Done => text::words(rt, b"done\n"),
         Told::Init(values) => lines::init(rt, values),
         Told::Cells => cells(rt, lent, count),
         Told::Wired => wired(rt, lent, count),
-        Told::Current(current) => lines::signed_number(rt, "current", current.0),
-        Told::Voltage(voltage) => lines::signed_number(rt, "voltage", voltage.0),
+        Told::Current(current) => lines::signed_number(rt, b"current", current.0),
+        Told::Voltage(voltage) => lines::signed_number(rt, b"voltage", voltage.0),
         Told::Temperature(read) => degrees(rt, read),
-        Told::Balancing(cells) => lines::number(rt, "balancing", cells as u64),
-        Told::Status(stat) => lines::number(rt, "status", stat.bits as u64),
-        Told::Charging(on) => lines::number(rt, "charging", if on { 1 } else { 0 }),
+        Told::Balancing(cells) => lines::number(rt, b"balancing", cells as u64),
+        Told::Status(stat) => lines::number(rt, b"status", stat.bits as u64),
+        Told::Charging(on) => lines::number(rt, b"charging", if on { 1 } else { 0 }),
         Told::Source(source) => source_line(rt, source),
-        Told::CellOn(cell) => lines::number(rt, "cellon", cell as u64),
-        Told::BalanceGet(set) => lines::number(rt, "balanceget", set as u64),
+        Told::CellOn(cell) => lines::number(rt, b"cellon", cell as u64),
+        Told::BalanceGet(set) => lines::number(rt, b"balanceget", set as u64),
         Told::Spread(figures) => spread(rt, figures),
     }
 }
 
 fn cells(rt: &impl Print, lent: &Lent, count: usize) -> io::Result<()> {
-    lines::signed_numbers(rt, "cells", &lent.list, count)
+    lines::signed_numbers(rt, b"cells", &lent.list, count)
 }
 
 fn wired(rt: &impl Print, lent: &Lent, count: usize) -> io::Result<()> {
-    lines::pairs(rt, "wired", &lent.inputs, &lent.list, count)
+    lines::pairs(rt, b"wired", &lent.inputs, &lent.list, count)
 }
 
 fn spread(rt: &impl Print, figures: Spread) -> io::Result<()> {
-    text::words(rt, "spread")?;
+    text::words(rt, b"spread")?;
     state::figures(rt, figures)?;
-    text::words(rt, "\n")
+    text::words(rt, b"\n")
 }
 
 fn degrees(rt: &impl Print, read: Temperature) -> io::Result<()> {
     match read {
-        Temperature::InternalDie(t) => lines::signed_number(rt, "temperature die", t.0),
+        Temperature::InternalDie(t) => lines::signed_number(rt, b"temperature die", t.0),
         Temperature::ExternalThermistor(t) => lines::signed_number(
             rt,
-            "temperature thermistor",
+            b"temperature thermistor",
             t.0,
         ),
     }
@@ -54,8 +54,8 @@ fn degrees(rt: &impl Print, read: Temperature) -> io::Result<()> {
 
 fn source_line(rt: &impl Print, source: TemperatureSource) -> io::Result<()> {
     match source {
-        TemperatureSource::InternalDie => text::words(rt, "source die\n"),
-        TemperatureSource::ExternalThermistor => text::words(rt, "source thermistor\n"),
+        TemperatureSource::InternalDie => text::words(rt, b"source die\n"),
+        TemperatureSource::ExternalThermistor => text::words(rt, b"source thermistor\n"),
     }
 }
 
@@ -89,17 +89,17 @@ fn room(value: &[u8], i: usize) -> usize {
 }
 
 fn list(rt: &impl Print, lent: &Lent, value: &[u8], i: usize) -> io::Result<()> {
-    lines::signed_numbers(rt, "list", &lent.list, room(value, i))
+    lines::signed_numbers(rt, b"list", &lent.list, room(value, i))
 }
 
 fn inputs(rt: &impl Print, lent: &Lent, value: &[u8]) -> io::Result<()> {
-    lines::small_numbers(rt, "inputs", &lent.inputs, room(value, 0))
+    lines::small_numbers(rt, b"inputs", &lent.inputs, room(value, 0))
 }
 
 fn data(rt: &impl Print, lent: &Lent, value: &[u8]) -> io::Result<()> {
     if value.len() == 3 {
         let count = numbers::be_u16(value[1], value[2]);
-        lines::bytes(rt, "data", &lent.data, count as usize)?;
+        lines::bytes(rt, b"data", &lent.data, count as usize)?;
     }
     Ok(())
 }

@@ -73,7 +73,7 @@ impl State {
         let device = self.device;
         let at = self.at;
         let link = device.link;
-        text::words(rt, "record")?;
+        text::words(rt, b"record")?;
         text::number(rt, link.x as u64)?;
         text::number(rt, device.cell_count as u64)?;
         text::number(rt, link.address as u64)?;
@@ -87,10 +87,10 @@ impl State {
         cells(rt, held)?;
         cells(rt, wired)?;
         figures(rt, device.spread())?;
-        text::words(rt, " tape")?;
+        text::words(rt, b" tape")?;
         text::number(rt, at.tape as u64)?;
-        text::words(rt, " log")?;
+        text::words(rt, b" log")?;
         text::number(rt, at.log as u64)?;
-        text::words(rt, "\n")
+        text::words(rt, b"\n")
     }
 }

@@ -16,7 +16,7 @@ fn main(rt: HostRuntime) -> io::Result<()> {
 }
 
 // 15, then 9, 10, 11, then the calls.
-fn print(rt: &(impl Print + Eprint), input: &[u8]) -> io::Result<()> {
+fn print(rt: &HostRuntime, input: &[u8]) -> io::Result<()> {
     let head = calls::head(input);
     match head {
         HeadAnswer::Wanted(heading) => make(rt, input, heading),
@@ -24,7 +24,7 @@ fn print(rt: &(impl Print + Eprint), input: &[u8]) -> io::Result<()> {
     }
 }
 
-fn make(rt: &(impl Print + Eprint), input: &[u8], heading: Heading) -> io::Result<()> {
+fn make(rt: &HostRuntime, input: &[u8], heading: Heading) -> io::Result<()> {
     let asked = heading.device;
     let tape_at = heading.tape_at;
     let made = BQ769x0::new(asked.x, asked.address, asked.cells, asked.check);
@@ -37,7 +37,7 @@ fn make(rt: &(impl Print + Eprint), input: &[u8], heading: Heading) -> io::Resul
 }
 
 fn run(
-    rt: &(impl Print + Eprint),
+    rt: &HostRuntime,
     input: &[u8],
     tape_at: usize,
     device: BQ769x0,

@@ -27,7 +27,7 @@ impl Bench {
     // One more transfer is answered, where one is wanted.
     fn pass(
         self,
-        rt: &(impl Print + Eprint),
+        rt: &HostRuntime,
         job: &[u8],
         state: State,
         cut: Cut,
@@ -98,7 +98,7 @@ fn cut_of(cuts: &[usize], transfer: usize) -> Cut {
 
 // The chip's answers to the calls of a job, on a tape of 00; how far they fill it.
 pub(crate) fn run(
-    rt: &(impl Print + Eprint),
+    rt: &HostRuntime,
     job: &[u8],
     state: State,
     chip: Chip,

@@ -25,7 +25,7 @@ fn main(rt: HostRuntime) -> io::Result<()> {
 }
 
 // 15, then 9, 10, 11, then the calls.
-fn print(rt: &(impl Print + Eprint), input: &mut [u8]) -> io::Result<()> {
+fn print(rt: &HostRuntime, input: &mut [u8]) -> io::Result<()> {
     let parsed = job::parse_device(input);
     match parsed {
         DeviceAnswer::Wanted(device) => with_device(rt, input, device),
@@ -33,7 +33,7 @@ fn print(rt: &(impl Print + Eprint), input: &mut [u8]) -> io::Result<()> {
     }
 }
 
-fn with_device(rt: &(impl Print + Eprint), input: &mut [u8], device: Device) -> io::Result<()> {
+fn with_device(rt: &HostRuntime, input: &mut [u8], device: Device) -> io::Result<()> {
     let mut cuts = [0usize; bench::MOST];
     let front = front::read(input, Chip::make(device.address, device.check), &mut cuts);
     let chip = front.chip;
@@ -51,7 +51,7 @@ fn with_device(rt: &(impl Print + Eprint), input: &mut [u8], device: Device) -> 
 
 // Field 20 and the calls, and nothing behind them.
 fn with_calls(
-    rt: &(impl Print + Eprint),
+    rt: &HostRuntime,
     input: &[u8],
     calls_at: usize,
     chip: Chip,
@@ -78,7 +78,7 @@ fn with_calls(
 }
 
 fn make(
-    rt: &(impl Print + Eprint),
+    rt: &HostRuntime,
     input: &[u8],
     job: &[u8],
     asked: Device,
@@ -100,7 +100,7 @@ fn fresh(device: BQ769x0, prints: Prints) -> State {
 }
 
 fn run(
-    rt: &(impl Print + Eprint),
+    rt: &HostRuntime,
     job: &[u8],
     device: BQ769x0,
     chip: Chip,
@@ -116,5 +116,5 @@ fn run(
     let state = fresh(device, Prints::Answers);
     let left = call_text::in_turn(rt, job, &tape[..end], state, &mut log)?;
     left.print(rt)?;
-    lines::bytes(rt, "tape", &tape, end)
+    lines::bytes(rt, b"tape", &tape, end)
 }

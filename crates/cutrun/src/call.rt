@@ -77,8 +77,8 @@ impl Call {
     // Another one of its kind, in words.
     pub(crate) fn another(self, rt: &impl Print) -> io::Result<()> {
         match self {
-            Call::Init(_) => text::words(rt, " of another configuration"),
-            Call::Set(_, _) => text::words(rt, " of another set"),
+            Call::Init(_) => text::words(rt, b" of another configuration"),
+            Call::Set(_, _) => text::words(rt, b" of another set"),
         }
     }
 }

@@ -34,9 +34,9 @@ fn register(rt: &impl Print, r: u8, before: u8, byte: u8) -> io::Result<bool> {
     if byte == before {
         return Ok(false);
     }
-    text::words(rt, ",")?;
+    text::words(rt, b",")?;
     text::hex(rt, r)?;
-    text::words(rt, " is")?;
+    text::words(rt, b" is")?;
     text::hex(rt, byte)?;
     Ok(true)
 }
@@ -48,20 +48,20 @@ fn registers(rt: &impl Print, before: Chip, chip: Chip) -> io::Result<()> {
         any = register(rt, r, before.regs[i], chip.regs[i])? | any;
     }
     if !any {
-        text::words(rt, ", no register new")?;
+        text::words(rt, b", no register new")?;
     }
     Ok(())
 }
 
 fn record(rt: &impl Print, device: BQ769x0) -> io::Result<()> {
-    text::words(rt, ", mark")?;
+    text::words(rt, b", mark")?;
     text::number(rt, device.init_complete as u64)?;
-    text::words(rt, " shunt")?;
+    text::words(rt, b" shunt")?;
     text::number(rt, device.shunt.0 as u64)
 }
 
 fn answer(rt: &impl Print, run: &Outcome) -> io::Result<()> {
-    text::words(rt, " answer")?;
+    text::words(rt, b" answer")?;
     text::number(rt, run.left.number as u64)
 }
 
@@ -70,43 +70,43 @@ fn left(rt: &impl Print, start: Start, run: &Outcome) -> io::Result<()> {
     let device = run.left.device;
     let before = start.chip;
     let chip = run.bench.chip;
-    text::words(rt, ":")?;
+    text::words(rt, b":")?;
     answer(rt, run)?;
     record(rt, device)?;
     registers(rt, before, chip)
 }
 
 // A start's name, and the build.
-pub(crate) fn title(rt: &impl Print, name: &str, start: Start) -> io::Result<()> {
+pub(crate) fn title(rt: &impl Print, name: &[u8], start: Start) -> io::Result<()> {
     let link = start.device.link;
     text::words(rt, name)?;
     if link.check {
-        text::words(rt, " with checks")?;
+        text::words(rt, b" with checks")?;
     }
     Ok(())
 }
 
 pub(crate) fn cut_at(rt: &impl Print, place: Place) -> io::Result<()> {
-    text::words(rt, ", transfer")?;
+    text::words(rt, b", transfer")?;
     text::number(rt, place.transfer as u64)?;
-    text::words(rt, " cut after")?;
+    text::words(rt, b" cut after")?;
     text::number(rt, place.bytes as u64)
 }
 
 // What a cut leaves.
-fn line(rt: &impl Print, name: &str, start: Start, place: Place) -> io::Result<()> {
+fn line(rt: &impl Print, name: &[u8], start: Start, place: Place) -> io::Result<()> {
     let cut = bench::run(start, place);
     title(rt, name, start)?;
     cut_at(rt, place)?;
     left(rt, start, &cut)?;
-    text::words(rt, "\n")
+    text::words(rt, b"\n")
 }
 
 // Whether the call after a cut ends as this one; a line where it does not.
 fn same(
     rt: &impl Print,
-    name: &str,
-    what: &str,
+    name: &[u8],
+    what: &[u8],
     start: Start,
     after: After,
     whole: &Outcome,
@@ -120,7 +120,7 @@ fn same(
         return Ok(true);
     }
     text::words(rt, what)?;
-    text::words(rt, " DIFFERS after ")?;
+    text::words(rt, b" DIFFERS after ")?;
     line(rt, name, start, place)?;
     Ok(false)
 }
@@ -132,7 +132,7 @@ fn uncut(start: Start, after: After) -> Outcome {
     bench::run(after.on(chip, device), Place::none())
 }
 
-fn each(rt: &impl Print, name: &str, what: &str, start: Start, after: After) -> io::Result<Tally> {
+fn each(rt: &impl Print, name: &[u8], what: &[u8], start: Start, after: After) -> io::Result<Tally> {
     let first = bench::run(start, Place::none());
     let whole = uncut(start, after);
     let mut tally = Tally::none();
@@ -153,20 +153,20 @@ fn counted(
     otherwise: Tally,
     call: Call,
 ) -> io::Result<()> {
-    text::words(rt, "; cut at")?;
+    text::words(rt, b"; cut at")?;
     text::number(rt, kept.tried)?;
-    text::words(rt, " places, then as if never cut:")?;
+    text::words(rt, b" places, then as if never cut:")?;
     text::number(rt, kept.same)?;
-    text::words(rt, " again,")?;
+    text::words(rt, b" again,")?;
     text::number(rt, lost.same)?;
-    text::words(rt, " with a new record,")?;
+    text::words(rt, b" with a new record,")?;
     text::number(rt, otherwise.same)?;
     call.another(rt)?;
-    text::words(rt, ",")
+    text::words(rt, b",")
 }
 
 // A start's line.
-pub(crate) fn all(rt: &impl Print, name: &str, start: Start, other: Call) -> io::Result<()> {
+pub(crate) fn all(rt: &impl Print, name: &[u8], start: Start, other: Call) -> io::Result<()> {
     let call = start.call;
     let again = After { anew: false, call };
     let anew = After { anew: true, call };
@@ -174,18 +174,18 @@ pub(crate) fn all(rt: &impl Print, name: &str, start: Start, other: Call) -> io:
         anew: false,
         call: other,
     };
-    let kept = each(rt, name, "again", start, again)?;
-    let lost = each(rt, name, "with a new record", start, anew)?;
-    let last = each(rt, name, "otherwise", start, otherwise)?;
+    let kept = each(rt, name, b"again", start, again)?;
+    let lost = each(rt, name, b"with a new record", start, anew)?;
+    let last = each(rt, name, b"otherwise", start, otherwise)?;
     title(rt, name, start)?;
     left(rt, start, &bench::run(start, Place::none()))?;
     counted(rt, kept, lost, last, call)?;
     answer(rt, &uncut(start, otherwise))?;
-    text::words(rt, "\n")
+    text::words(rt, b"\n")
 }
 
 // A line for each place.
-pub(crate) fn shown(rt: &impl Print, name: &str, start: Start) -> io::Result<()> {
+pub(crate) fn shown(rt: &impl Print, name: &[u8], start: Start) -> io::Result<()> {
     let first = bench::run(start, Place::none());
     let mut place = Place::first();
     for _ in 0..bench::PLACES {

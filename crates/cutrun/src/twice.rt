@@ -25,10 +25,10 @@ fn pair(
     let again = bench::run(after(&cut, call), Place::none());
     let same = compare::same(&again, whole);
     if !same {
-        text::words(rt, "cut twice")?;
+        text::words(rt, b"cut twice")?;
         report::cut_at(rt, first)?;
         report::cut_at(rt, second)?;
-        text::words(rt, ": DIFFERS\n")?;
+        text::words(rt, b": DIFFERS\n")?;
     }
     Ok(same)
 }
@@ -65,13 +65,13 @@ fn each_first(rt: &impl Print, start: Start, whole: &Outcome) -> io::Result<Tall
     Ok(tally)
 }
 
-pub(crate) fn all(rt: &impl Print, name: &str, start: Start) -> io::Result<()> {
+pub(crate) fn all(rt: &impl Print, name: &[u8], start: Start) -> io::Result<()> {
     let whole = bench::run(start, Place::none());
     let tally = each_first(rt, start, &whole)?;
     report::title(rt, name, start)?;
-    text::words(rt, ": cut twice at")?;
+    text::words(rt, b": cut twice at")?;
     text::number(rt, tally.tried)?;
-    text::words(rt, " pairs of places, then as if never cut:")?;
+    text::words(rt, b" pairs of places, then as if never cut:")?;
     text::number(rt, tally.same)?;
-    text::words(rt, " again\n")
+    text::words(rt, b" again\n")
 }

@@ -15,7 +15,7 @@ fn main(rt: HostRuntime) -> io::Result<()> {
 }
 
 // The tape is what follows the job's two fields.
-fn print(rt: &(impl Print + Eprint), input: &[u8]) -> io::Result<()> {
+fn print(rt: &HostRuntime, input: &[u8]) -> io::Result<()> {
     if input.len() < job::TAPE_AT {
         return report(rt, input, b"");
     }
@@ -26,7 +26,7 @@ fn start() -> Cursor {
     Cursor { tape: 0, log: 0 }
 }
 
-fn report(rt: &(impl Print + Eprint), job: &[u8], tape: &[u8]) -> io::Result<()> {
+fn report(rt: &HostRuntime, job: &[u8], tape: &[u8]) -> io::Result<()> {
     let mut log = [0u8; 256];
     let done = job_setup::init(job, tape, &mut log);
     let answer = done.answer;
@@ -39,7 +39,7 @@ fn report(rt: &(impl Print + Eprint), job: &[u8], tape: &[u8]) -> io::Result<()>
 }
 
 fn refuse(
-    rt: &(impl Print + Eprint),
+    rt: &HostRuntime,
     e: Error,
     job: &[u8],
     tape: &[u8],
@@ -52,7 +52,7 @@ fn refuse(
     }
 }
 
-fn refuse_job(rt: &(impl Print + Eprint), e: Error, job: &[u8]) -> io::Result<()> {
+fn refuse_job(rt: &HostRuntime, e: Error, job: &[u8]) -> io::Result<()> {
     let parsed = job::parse_device(job);
     match parsed {
         DeviceAnswer::Wanted(_) => refused::in_job(rt, e, job, 7, 0x21),
@@ -61,7 +61,7 @@ fn refuse_job(rt: &(impl Print + Eprint), e: Error, job: &[u8]) -> io::Result<()
 }
 
 fn refuse_init(
-    rt: &(impl Print + Eprint),
+    rt: &HostRuntime,
     e: Error,
     job: &[u8],
     tape: &[u8],
@@ -77,7 +77,7 @@ fn refuse_init(
 }
 
 fn wants(
-    rt: &(impl Print + Eprint),
+    rt: &HostRuntime,
     e: Error,
     job: &[u8],
     tape: &[u8],

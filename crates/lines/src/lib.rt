@@ -9,12 +9,7 @@ mod log_fields;
 pub mod refused;
 
 // The fields that a call added to the log.
-pub fn transfers(
-    rt: &(impl Print + Eprint),
-    log: &[u8],
-    at: Cursor,
-    next: Cursor,
-) -> io::Result<()> {
+pub fn transfers(rt: &HostRuntime, log: &[u8], at: Cursor, next: Cursor) -> io::Result<()> {
     log_fields::between(rt, log, at.log, next.log)
 }
 
@@ -24,50 +19,50 @@ pub fn init(rt: &impl Print, values: CalculatedValues) -> io::Result<()> {
     let numbers = answer.in_numbers();
     let uv = values.uv_threshold.0;
     let ov = values.ov_threshold.0;
-    text::words(rt, "init range")?;
+    text::words(rt, b"init range")?;
     text::number(rt, numbers.0 as u64)?;
-    text::words(rt, " scd")?;
+    text::words(rt, b" scd")?;
     text::number(rt, numbers.1 as u64)?;
-    text::words(rt, " ocd")?;
+    text::words(rt, b" ocd")?;
     text::number(rt, numbers.2 as u64)?;
-    text::words(rt, " uv")?;
+    text::words(rt, b" uv")?;
     text::signed_number(rt, uv)?;
-    text::words(rt, " ov")?;
+    text::words(rt, b" ov")?;
     text::signed_number(rt, ov)?;
-    text::words(rt, "\n")
+    text::words(rt, b"\n")
 }
 
-pub fn number(rt: &impl Print, name: &str, n: u64) -> io::Result<()> {
+pub fn number(rt: &impl Print, name: &[u8], n: u64) -> io::Result<()> {
     text::words(rt, name)?;
     text::number(rt, n)?;
-    text::words(rt, "\n")
+    text::words(rt, b"\n")
 }
 
-pub fn signed_number(rt: &impl Print, name: &str, n: i32) -> io::Result<()> {
+pub fn signed_number(rt: &impl Print, name: &[u8], n: i32) -> io::Result<()> {
     text::words(rt, name)?;
     text::signed_number(rt, n)?;
-    text::words(rt, "\n")
+    text::words(rt, b"\n")
 }
 
 // The first `count` of a list, or all where it has no more.
-pub fn signed_numbers(rt: &impl Print, name: &str, list: &[i32], count: usize) -> io::Result<()> {
+pub fn signed_numbers(rt: &impl Print, name: &[u8], list: &[i32], count: usize) -> io::Result<()> {
     text::words(rt, name)?;
     for n in list.iter().take(count) {
         text::signed_number(rt, *n)?;
     }
-    text::words(rt, "\n")
+    text::words(rt, b"\n")
 }
 
 fn whole(n: u8) -> u64 {
     n as u64
 }
 
-pub fn small_numbers(rt: &impl Print, name: &str, list: &[u8], count: usize) -> io::Result<()> {
+pub fn small_numbers(rt: &impl Print, name: &[u8], list: &[u8], count: usize) -> io::Result<()> {
     text::words(rt, name)?;
     for n in list.iter().take(count) {
         text::number(rt, whole(*n))?;
     }
-    text::words(rt, "\n")
+    text::words(rt, b"\n")
 }
 
 // The number at a place, where there is one.
@@ -81,7 +76,7 @@ fn number_at(rt: &impl Print, list: &[i32], i: usize) -> io::Result<()> {
 // The first `count` of two lists, each number of the first ahead of the one beside it.
 pub fn pairs(
     rt: &impl Print,
-    name: &str,
+    name: &[u8],
     first: &[u8],
     second: &[i32],
     count: usize,
@@ -91,13 +86,13 @@ pub fn pairs(
         text::number(rt, whole(*n))?;
         number_at(rt, second, i)?;
     }
-    text::words(rt, "\n")
+    text::words(rt, b"\n")
 }
 
-pub fn bytes(rt: &impl Print, name: &str, bytes: &[u8], count: usize) -> io::Result<()> {
+pub fn bytes(rt: &impl Print, name: &[u8], bytes: &[u8], count: usize) -> io::Result<()> {
     text::words(rt, name)?;
     for b in bytes.iter().take(count) {
         text::hex(rt, *b)?;
     }
-    text::words(rt, "\n")
+    text::words(rt, b"\n")
 }

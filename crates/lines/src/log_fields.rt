@@ -17,7 +17,7 @@ pub(crate) fn byte(bytes: &[u8], i: usize, k: usize) -> u8 {
 
 // Those from one to another of the bytes after place i.
 pub(crate) fn bytes(
-    rt: &(impl Print + Eprint),
+    rt: &HostRuntime,
     stream: Stream,
     bytes: &[u8],
     i: usize,
@@ -31,17 +31,12 @@ pub(crate) fn bytes(
 }
 
 // Of a write its register and the bytes sent after it, of a read its register and the count of bytes on the bus.
-pub(crate) fn transfer(
-    rt: &(impl Print + Eprint),
-    stream: Stream,
-    log: &[u8],
-    i: usize,
-) -> io::Result<()> {
+pub(crate) fn transfer(rt: &HostRuntime, stream: Stream, log: &[u8], i: usize) -> io::Result<()> {
     if byte(log, i, 0) == 0x11 {
-        text::words_to(rt, stream, "W")?;
+        text::words_to(rt, stream, b"W")?;
         bytes(rt, stream, log, i, 4, size(log, i))
     } else {
-        text::words_to(rt, stream, "R")?;
+        text::words_to(rt, stream, b"R")?;
         text::hex_to(rt, stream, byte(log, i, 4))?;
         let count = numbers::be_u16(byte(log, i, 5), byte(log, i, 6));
         text::number_to(rt, stream, count as u64)
@@ -59,18 +54,13 @@ pub(crate) fn least(a: usize, b: usize) -> usize {
     if a < b { a } else { b }
 }
 
-fn line(rt: &(impl Print + Eprint), log: &[u8], i: usize) -> io::Result<()> {
+fn line(rt: &HostRuntime, log: &[u8], i: usize) -> io::Result<()> {
     transfer(rt, Stream::Out, log, i)?;
-    text::words(rt, "\n")
+    text::words(rt, b"\n")
 }
 
 // A line each, of the part of the log that starts at one place and ends before another, or where the log ends.
-pub(crate) fn between(
-    rt: &(impl Print + Eprint),
-    log: &[u8],
-    from: usize,
-    before: usize,
-) -> io::Result<()> {
+pub(crate) fn between(rt: &HostRuntime, log: &[u8], from: usize, before: usize) -> io::Result<()> {
     let end = least(before, log.len());
     let mut i = from;
     while i < end {

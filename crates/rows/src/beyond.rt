@@ -30,16 +30,16 @@ fn ocd(amperes: u32, shunt: u32) -> u32 {
 }
 
 fn steps(rt: &impl Print) -> io::Result<()> {
-    print::row(rt, "D2 OCD 256 A at 1000 uOhm: refused", ocd(256, 1000), 13)?;
+    print::row(rt, b"D2 OCD 256 A at 1000 uOhm: refused", ocd(256, 1000), 13)?;
     print::row(
         rt,
-        "D3 SCD 65536 A at 65536 uOhm: refused",
+        b"D3 SCD 65536 A at 65536 uOhm: refused",
         scd(65536, 65536),
         13,
     )?;
     print::row(
         rt,
-        "D3 OCD 65536 A at 65536 uOhm: refused",
+        b"D3 OCD 65536 A at 65536 uOhm: refused",
         ocd(65536, 65536),
         13,
     )
@@ -56,19 +56,19 @@ fn codes(rt: &impl Print) -> io::Result<()> {
     let scd = SCDThreshold::_22mV.bits(OCDSCDRange::Unknown);
     print::row(
         rt,
-        "D4 code of SCD 22 mV for range Unknown: refused",
+        b"D4 code of SCD 22 mV for range Unknown: refused",
         code(scd),
         20,
     )?;
     let ocd = OCDThreshold::_8mV.bits(OCDSCDRange::Unknown);
     print::row(
         rt,
-        "D5 code of OCD 8 mV for range Unknown: refused",
+        b"D5 code of OCD 8 mV for range Unknown: refused",
         code(ocd),
         20,
     )?;
     let range = OCDSCDRange::Unknown.bits();
-    print::row(rt, "D6 bit of range Unknown: refused", code(range), 20)
+    print::row(rt, b"D6 bit of range Unknown: refused", code(range), 20)
 }
 
 fn current(high: u8, low: u8, shunt: u32) -> u32 {
@@ -81,19 +81,19 @@ fn current(high: u8, low: u8, shunt: u32) -> u32 {
 fn currents(rt: &impl Print) -> io::Result<()> {
     print::row(
         rt,
-        "D7 counter 1, shunt 0: refused",
+        b"D7 counter 1, shunt 0: refused",
         current(0x00, 0x01, 0),
         12,
     )?;
     print::row(
         rt,
-        "D8 counter 1, shunt 2147483648: refused",
+        b"D8 counter 1, shunt 2147483648: refused",
         current(0x00, 0x01, 2147483648),
         12,
     )?;
     print::row(
         rt,
-        "D8 counter 8000, shunt 4018405376: refused",
+        b"D8 counter 8000, shunt 4018405376: refused",
         current(0x80, 0x00, 4018405376),
         12,
     )
@@ -124,24 +124,24 @@ fn planned(gain: u16, shunt: u32) -> u32 {
 fn plans(rt: &impl Print) -> io::Result<()> {
     print::row(
         rt,
-        "D9 reading asked for 2800 mV at gain 0: refused",
+        b"D9 reading asked for 2800 mV at gain 0: refused",
         asked(0),
         9,
     )?;
-    print::row(rt, "D9 plan at gain 0: refused", planned(0, 1000), 9)?;
-    print::row(rt, "D10 plan with shunt 0: refused", planned(365, 0), 12)
+    print::row(rt, b"D9 plan at gain 0: refused", planned(0, 1000), 9)?;
+    print::row(rt, b"D10 plan with shunt 0: refused", planned(365, 0), 12)
 }
 
 fn millivolts(rt: &impl Print) -> io::Result<()> {
     print::row(
         rt,
-        "D35 SCD step 200 mV: mV",
+        b"D35 SCD step 200 mV: mV",
         SCDThreshold::_200mV.mv() as u32,
         200,
     )?;
     print::row(
         rt,
-        "D35 OCD step 100 mV: mV",
+        b"D35 OCD step 100 mV: mV",
         OCDThreshold::_100mV.mv() as u32,
         100,
     )
@@ -154,7 +154,7 @@ fn readings(rt: &impl Print) -> io::Result<()> {
     };
     print::signed_row(
         rt,
-        "D38 reading FFFF, gain 65535: mV",
+        b"D38 reading FFFF, gain 65535: mV",
         wide.apply(0xFFFF).0,
         4294836,
     )?;
@@ -164,7 +164,7 @@ fn readings(rt: &impl Print) -> io::Result<()> {
     };
     print::signed_row(
         rt,
-        "D38 reading 0, gain 365, offset -1: mV",
+        b"D38 reading 0, gain 365, offset -1: mV",
         low.apply(0).0,
         -1,
     )
@@ -174,12 +174,12 @@ fn flags(rt: &impl Print) -> io::Result<()> {
     let both = SysStat::CC_READY.union(SysStat::OVERCURRENT);
     print::row(
         rt,
-        "D39 CC_READY and OVERCURRENT in one set",
+        b"D39 CC_READY and OVERCURRENT in one set",
         both.bits() as u32,
         0x81,
     )?;
     let set = SysStat { bits: 0x40 };
-    print::row(rt, "D39 the set of bit 6", set.bits() as u32, 0x40)
+    print::row(rt, b"D39 the set of bit 6", set.bits() as u32, 0x40)
 }
 
 fn packs(rt: &impl Print) -> io::Result<()> {
@@ -189,13 +189,13 @@ fn packs(rt: &impl Print) -> io::Result<()> {
     };
     print::signed_row(
         rt,
-        "D54 pack of 3 cells, reading 0, offset 1: mV (5 before)",
+        b"D54 pack of 3 cells, reading 0, offset 1: mV (5 before)",
         high.pack_voltage(3, 0).0,
         3,
     )?;
     print::signed_row(
         rt,
-        "D54 the same of 5 cells: mV",
+        b"D54 the same of 5 cells: mV",
         high.pack_voltage(5, 0).0,
         5,
     )
@@ -204,25 +204,25 @@ fn packs(rt: &impl Print) -> io::Result<()> {
 fn delays(rt: &impl Print) -> io::Result<()> {
     print::row(
         rt,
-        "D53 OV delay of 1 s: bits",
+        b"D53 OV delay of 1 s: bits",
         OVDelay::_1s.bits() as u32,
         0x00,
     )?;
     print::row(
         rt,
-        "D53 OV delay of 2 s: bits",
+        b"D53 OV delay of 2 s: bits",
         OVDelay::_2s.bits() as u32,
         0x10,
     )?;
     print::row(
         rt,
-        "D53 OV delay of 4 s: bits (16 before)",
+        b"D53 OV delay of 4 s: bits (16 before)",
         OVDelay::_4s.bits() as u32,
         0x20,
     )?;
     print::row(
         rt,
-        "D53 OV delay of 8 s: bits (32 before)",
+        b"D53 OV delay of 8 s: bits (32 before)",
         OVDelay::_8s.bits() as u32,
         0x30,
     )
@@ -238,25 +238,25 @@ fn told(answer: SecondsAnswer) -> u32 {
 fn delay_seconds(rt: &impl Print) -> io::Result<()> {
     print::row(
         rt,
-        "D53 OV delay of code 1: s (4 before)",
+        b"D53 OV delay of code 1: s (4 before)",
         told(seconds::ov_seconds(1)),
         2,
     )?;
     print::row(
         rt,
-        "D79 OV delay of code 3: s",
+        b"D79 OV delay of code 3: s",
         told(seconds::ov_seconds(3)),
         8,
     )?;
     print::row(
         rt,
-        "D79 UV delay of code 3: s",
+        b"D79 UV delay of code 3: s",
         told(seconds::uv_seconds(3)),
         16,
     )?;
     print::row(
         rt,
-        "D79 UV delay of code 4: refused",
+        b"D79 UV delay of code 4: refused",
         told(seconds::uv_seconds(4)),
         15,
     )

@@ -34,15 +34,15 @@ fn read(cell_count: u8, list: &mut [i32; 10]) {
 }
 
 fn row(rt: &impl Print, cell: u32, millivolts: i32, should: u32) -> io::Result<()> {
-    text::words(rt, "  cell")?;
+    text::words(rt, b"  cell")?;
     text::number(rt, cell as u64)?;
-    print::row(rt, ", input", numbers::as_u32(millivolts) / 365, should)
+    print::row(rt, b", input", numbers::as_u32(millivolts) / 365, should)
 }
 
 pub(crate) fn ten(rt: &impl Print) -> io::Result<()> {
     let mut list = [0i32; 10];
     read(10, &mut list);
-    text::words(rt, "BQ76930, 10 cells\n")?;
+    text::words(rt, b"BQ76930, 10 cells\n")?;
     row(rt, 1, list[0], 1)?;
     row(rt, 2, list[1], 2)?;
     row(rt, 3, list[2], 3)?;
@@ -58,7 +58,7 @@ pub(crate) fn ten(rt: &impl Print) -> io::Result<()> {
 pub(crate) fn six(rt: &impl Print) -> io::Result<()> {
     let mut list = [0i32; 10];
     read(6, &mut list);
-    text::words(rt, "BQ76930, 6 cells\n")?;
+    text::words(rt, b"BQ76930, 6 cells\n")?;
     row(rt, 1, list[0], 1)?;
     row(rt, 2, list[1], 2)?;
     row(rt, 3, list[2], 5)?;

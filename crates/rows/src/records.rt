@@ -32,7 +32,7 @@ fn transfers(rt: &impl Print) -> io::Result<()> {
     };
     print::row(
         rt,
-        "D11 setup with address 128: refused",
+        b"D11 setup with address 128: refused",
         read_status(far, &mut log),
         9,
     )?;
@@ -43,7 +43,7 @@ fn transfers(rt: &impl Print) -> io::Result<()> {
     };
     print::row(
         rt,
-        "D11 setup with X 6: refused",
+        b"D11 setup with X 6: refused",
         read_status(none, &mut log),
         9,
     )
@@ -58,14 +58,14 @@ fn logs(rt: &impl Print) -> io::Result<()> {
     let mut short = [0u8; 6];
     print::row(
         rt,
-        "D27 a read with 6 bytes of log: refused",
+        b"D27 a read with 6 bytes of log: refused",
         read_status(link, &mut short),
         17,
     )?;
     let mut log = [0u8; 7];
     print::row(
         rt,
-        "D27 the same with 7: refused",
+        b"D27 the same with 7: refused",
         read_status(link, &mut log),
         0,
     )
@@ -99,13 +99,13 @@ fn current(device: BQ769x0) -> u32 {
 fn unsound(rt: &impl Print) -> io::Result<()> {
     print::row(
         rt,
-        "D29 current of a record marked with shunt 0: refused",
+        b"D29 current of a record marked with shunt 0: refused",
         current(marked(0)),
         9,
     )?;
     print::row(
         rt,
-        "D29 the same with shunt 2147483648: refused",
+        b"D29 the same with shunt 2147483648: refused",
         current(marked(2147483648)),
         9,
     )
@@ -119,11 +119,11 @@ fn not_made(rt: &impl Print) -> io::Result<()> {
         NewAnswer::Made => 0,
         NewAnswer::Refused(e) => e.number() as u32,
     };
-    print::row(rt, "D30 new with X 6: refused", number, 9)?;
-    print::row(rt, "D30 X of the record it leaves", device.link.x as u32, 0)?;
+    print::row(rt, b"D30 new with X 6: refused", number, 9)?;
+    print::row(rt, b"D30 X of the record it leaves", device.link.x as u32, 0)?;
     print::row(
         rt,
-        "D30 current of that record: refused",
+        b"D30 current of that record: refused",
         current(device),
         9,
     )
@@ -140,26 +140,26 @@ fn parts(rt: &impl Print) -> io::Result<()> {
     let mut short = [0i32; 4];
     print::row(
         rt,
-        "D33 cells handed back of a list of 4",
+        b"D33 cells handed back of a list of 4",
         handed(&mut short),
         0,
     )?;
     let mut list = [0i32; 6];
     print::row(
         rt,
-        "D33 cells handed back of a list of 6",
+        b"D33 cells handed back of a list of 6",
         handed(&mut list),
         5,
     )
 }
 
 fn constants(rt: &impl Print) -> io::Result<()> {
-    print::row(rt, "D34 BQ76920", BQ769x0::BQ76920 as u32, 5)?;
-    print::row(rt, "D34 BQ76930", BQ769x0::BQ76930 as u32, 10)?;
-    print::row(rt, "D34 BQ76940", BQ769x0::BQ76940 as u32, 15)?;
-    print::row(rt, "D34 SYS_CTRL2", BQ769x0::SYS_CTRL2 as u32, 0x05)?;
-    print::row(rt, "D34 PROTECT1", BQ769x0::PROTECT1 as u32, 0x06)?;
-    print::row(rt, "D34 ADCGAIN1", BQ769x0::ADCGAIN1 as u32, 0x50)
+    print::row(rt, b"D34 BQ76920", BQ769x0::BQ76920 as u32, 5)?;
+    print::row(rt, b"D34 BQ76930", BQ769x0::BQ76930 as u32, 10)?;
+    print::row(rt, b"D34 BQ76940", BQ769x0::BQ76940 as u32, 15)?;
+    print::row(rt, b"D34 SYS_CTRL2", BQ769x0::SYS_CTRL2 as u32, 0x05)?;
+    print::row(rt, b"D34 PROTECT1", BQ769x0::PROTECT1 as u32, 0x06)?;
+    print::row(rt, b"D34 ADCGAIN1", BQ769x0::ADCGAIN1 as u32, 0x50)
 }
 
 pub(crate) fn records(rt: &impl Print) -> io::Result<()> {

@@ -133,12 +133,12 @@ fn is_given(field: &[u8]) -> bool
 }
 
 // For a field of this tag, which should begin at `at`.
-fn refused(rt: &(impl Print + Eprint), input: &[u8], at: usize, tag: u8) -> io::Result<()> {
+fn refused(rt: &HostRuntime, input: &[u8], at: usize, tag: u8) -> io::Result<()> {
     lines::refused::in_job(rt, Error::BadTape, input, at, tag)
 }
 
 // 15, then the calls, whatever the record.
-pub(crate) fn print(rt: &(impl Print + Eprint), input: &[u8]) -> io::Result<()> {
+pub(crate) fn print(rt: &HostRuntime, input: &[u8]) -> io::Result<()> {
     if input.len() == 0 {
         return refused(rt, input, 0, 0x1E);
     }
@@ -155,7 +155,7 @@ pub(crate) fn print(rt: &(impl Print + Eprint), input: &[u8]) -> io::Result<()> 
 }
 
 // Field 1E from `at` on, and the job behind it.
-fn given(rt: &(impl Print + Eprint), input: &[u8], at: usize, wired: Wired) -> io::Result<()>
+fn given(rt: &HostRuntime, input: &[u8], at: usize, wired: Wired) -> io::Result<()>
     requires { at ≤ length input.now }
 {
     if input.len() - at < GIVEN {
@@ -175,7 +175,7 @@ fn given(rt: &(impl Print + Eprint), input: &[u8], at: usize, wired: Wired) -> i
 
 // 15 where the log is asked too large; each byte of it is EE before.
 fn run(
-    rt: &(impl Print + Eprint),
+    rt: &HostRuntime,
     input: &[u8],
     at: usize,
     value: &[u8],
@@ -198,12 +198,12 @@ fn run(
 
 // The calls, and the log they leave.
 fn with_log(
-    rt: &(impl Print + Eprint),
+    rt: &HostRuntime,
     job: &[u8],
     tape_at: usize,
     state: State,
     log: &mut [u8],
 ) -> io::Result<()> {
     call_text::print(rt, job, tape_at, state, log)?;
-    lines::bytes(rt, "log", log, log.len())
+    lines::bytes(rt, b"log", log, log.len())
 }

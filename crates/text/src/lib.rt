@@ -3,7 +3,6 @@
 
 ghost use Rattle.std.specs.Prelude.{◌≤◌, IfOk, length};
 
-use std::fmt::Display;
 use std::io;
 use std::io::Read;
 
@@ -13,28 +12,27 @@ pub enum Stream {
     Aside,
 }
 
-pub fn words_to<D: Display + Drop>(
-    rt: &(impl Print + Eprint),
-    stream: Stream,
-    text: D,
-) -> io::Result<()> {
+pub fn words_to(rt: &HostRuntime, stream: Stream, text: &[u8]) -> io::Result<()> {
     match stream {
-        Stream::Out => rt.print(text),
-        Stream::Aside => rt.eprint(text),
+        Stream::Out => rt.stdout().write_all(text),
+        Stream::Aside => rt.stderr().write_all(text),
     }
 }
 
-pub fn words(rt: &impl Print, text: &str) -> io::Result<()> {
-    rt.print(text)
+pub fn words(rt: &impl Print, text: &[u8]) -> io::Result<()> {
+    rt.write_all(text)
 }
 
-pub fn aside(rt: &impl Eprint, text: &str) -> io::Result<()> {
-    rt.eprint(text)
+pub fn aside(rt: &HostRuntime, text: &[u8]) -> io::Result<()> {
+    words_to(rt, Stream::Aside, text)
 }
 
 // Two digits, in upper case, after a blank.
-pub fn hex_to(rt: &(impl Print + Eprint), stream: Stream, b: u8) -> io::Result<()> {
-    words_to(rt, stream, format_args!(" {b:02X}"))
+pub fn hex_to(rt: &HostRuntime, stream: Stream, b: u8) -> io::Result<()> {
+    match stream {
+        Stream::Out => hex(rt, b),
+        Stream::Aside => hex(&rt.stderr(), b),
+    }
 }
 
 pub fn hex(rt: &impl Print, b: u8) -> io::Result<()> {
@@ -42,8 +40,11 @@ pub fn hex(rt: &impl Print, b: u8) -> io::Result<()> {
 }
 
 // After a blank, in decimal.
-pub fn number_to(rt: &(impl Print + Eprint), stream: Stream, n: u64) -> io::Result<()> {
-    words_to(rt, stream, format_args!(" {n}"))
+pub fn number_to(rt: &HostRuntime, stream: Stream, n: u64) -> io::Result<()> {
+    match stream {
+        Stream::Out => number(rt, n),
+        Stream::Aside => number(&rt.stderr(), n),
+    }
 }
 
 pub fn number(rt: &impl Print, n: u64) -> io::Result<()> {

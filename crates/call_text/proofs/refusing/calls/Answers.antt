@@ -4,16 +4,16 @@ use Rattle.calls.proofs.Steps.{starts, inside}
 use Rattle.call_text.proofs.refusing.calls.Goals as goal
 
 pub overflow_add-end : goal.overflow_add-end
-overflow_add-end g c =
+overflow_add-end c =
     let h = inside _ _ _ (sym c.in-Found.ensures) in
     search rules
 
 pub slice_bounds-is_lawful-end : goal.slice_bounds-is_lawful-end
-slice_bounds-is_lawful-end g c =
+slice_bounds-is_lawful-end c =
     let h = inside _ _ _ (sym c.in-Found.ensures) in
     search rules
 
 pub loop-at-smaller : goal.loop-at-smaller
-loop-at-smaller g c =
+loop-at-smaller c =
     let s = starts _ _ _ (sym c.in-Found.ensures) in
     omega arith
