@@ -36,12 +36,7 @@ fn make(rt: &HostRuntime, input: &[u8], heading: Heading) -> io::Result<()> {
     }
 }
 
-fn run(
-    rt: &HostRuntime,
-    input: &[u8],
-    tape_at: usize,
-    device: BQ769x0,
-) -> io::Result<()> {
+fn run(rt: &HostRuntime, input: &[u8], tape_at: usize, device: BQ769x0) -> io::Result<()> {
     let at = Cursor { tape: 0, log: 0 };
     let state = State {
         device,

@@ -13,13 +13,13 @@ use bus::link::{Raw, RawAnswer};
 use cellbal::Judged;
 use refusals::Error;
 
-#[derive(Drop)]
+#[derive(Clone, Copy)]
 pub enum SetAnswer {
     Set(u16),
     Refused(Error),
 }
 
-#[derive(Drop)]
+#[derive(Clone, Copy)]
 pub struct SetRead {
     pub answer: SetAnswer,
     pub at: Cursor,

@@ -13,19 +13,19 @@ use bus::Cursor;
 use bus::link::Raw;
 use refusals::Error;
 
-#[derive(Drop)]
+#[derive(Clone, Copy)]
 pub enum TemperatureSource {
     InternalDie,
     ExternalThermistor,
 }
 
-#[derive(Drop)]
+#[derive(Clone, Copy)]
 pub enum SourceAnswer {
     Source(TemperatureSource),
     Refused(Error),
 }
 
-#[derive(Drop)]
+#[derive(Clone, Copy)]
 pub struct SourceRead {
     pub answer: SourceAnswer,
     pub at: Cursor,

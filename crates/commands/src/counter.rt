@@ -10,7 +10,7 @@ use bus::Cursor;
 use bus::link::Raw;
 use refusals::Error;
 
-#[derive(Drop)]
+#[derive(Clone, Copy)]
 pub enum CoulombCounterMode {
     Disabled,
     OneShot,

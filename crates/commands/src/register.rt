@@ -10,13 +10,13 @@ use bus::Cursor;
 use bus::link::{Link, Raw, RawAnswer};
 use refusals::Error;
 
-#[derive(Drop)]
+#[derive(Clone, Copy)]
 pub enum ByteAnswer {
     Byte(u8),
     Refused(Error),
 }
 
-#[derive(Drop)]
+#[derive(Clone, Copy)]
 pub struct ByteRead {
     pub answer: ByteAnswer,
     pub at: Cursor,

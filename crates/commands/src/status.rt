@@ -13,13 +13,13 @@ use bus::link::Raw;
 use refusals::Error;
 use units::flags::{Stat, SysStat};
 
-#[derive(Drop)]
+#[derive(Clone, Copy)]
 pub enum StatAnswer {
     Status(Stat),
     Refused(Error),
 }
 
-#[derive(Drop)]
+#[derive(Clone, Copy)]
 pub struct StatRead {
     pub answer: StatAnswer,
     pub at: Cursor,

@@ -14,13 +14,13 @@ use bus::Cursor;
 use bus::link::{Link, Raw, RawAnswer};
 use refusals::Error;
 
-#[derive(Drop)]
+#[derive(Clone, Copy)]
 pub enum FlagAnswer {
     Flag(bool),
     Refused(Error),
 }
 
-#[derive(Drop)]
+#[derive(Clone, Copy)]
 pub struct FlagRead {
     pub answer: FlagAnswer,
     pub at: Cursor,

@@ -132,7 +132,13 @@ fn uncut(start: Start, after: After) -> Outcome {
     bench::run(after.on(chip, device), Place::none())
 }
 
-fn each(rt: &impl Print, name: &[u8], what: &[u8], start: Start, after: After) -> io::Result<Tally> {
+fn each(
+    rt: &impl Print,
+    name: &[u8],
+    what: &[u8],
+    start: Start,
+    after: After,
+) -> io::Result<Tally> {
     let first = bench::run(start, Place::none());
     let whole = uncut(start, after);
     let mut tally = Tally::none();

@@ -38,13 +38,7 @@ fn report(rt: &HostRuntime, job: &[u8], tape: &[u8]) -> io::Result<()> {
     }
 }
 
-fn refuse(
-    rt: &HostRuntime,
-    e: Error,
-    job: &[u8],
-    tape: &[u8],
-    next: Cursor,
-) -> io::Result<()> {
+fn refuse(rt: &HostRuntime, e: Error, job: &[u8], tape: &[u8], next: Cursor) -> io::Result<()> {
     let parsed = job::parse(job);
     match parsed {
         JobAnswer::Wanted(_) => refuse_init(rt, e, job, tape, next),
@@ -76,13 +70,7 @@ fn refuse_init(
     }
 }
 
-fn wants(
-    rt: &HostRuntime,
-    e: Error,
-    job: &[u8],
-    tape: &[u8],
-    next: Cursor,
-) -> io::Result<()> {
+fn wants(rt: &HostRuntime, e: Error, job: &[u8], tape: &[u8], next: Cursor) -> io::Result<()> {
     let mut again = [0u8; 256];
     let mut log = [0u8; 256];
     refused::wants(rt, e, 1, tape, start(), next, &mut again)?;

@@ -30,7 +30,12 @@ fn ocd(amperes: u32, shunt: u32) -> u32 {
 }
 
 fn steps(rt: &impl Print) -> io::Result<()> {
-    print::row(rt, b"D2 OCD 256 A at 1000 uOhm: refused", ocd(256, 1000), 13)?;
+    print::row(
+        rt,
+        b"D2 OCD 256 A at 1000 uOhm: refused",
+        ocd(256, 1000),
+        13,
+    )?;
     print::row(
         rt,
         b"D3 SCD 65536 A at 65536 uOhm: refused",

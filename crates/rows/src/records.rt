@@ -120,7 +120,12 @@ fn not_made(rt: &impl Print) -> io::Result<()> {
         NewAnswer::Refused(e) => e.number() as u32,
     };
     print::row(rt, b"D30 new with X 6: refused", number, 9)?;
-    print::row(rt, b"D30 X of the record it leaves", device.link.x as u32, 0)?;
+    print::row(
+        rt,
+        b"D30 X of the record it leaves",
+        device.link.x as u32,
+        0,
+    )?;
     print::row(
         rt,
         b"D30 current of that record: refused",
