@@ -74,7 +74,7 @@ module _ (d : BQ769x0) (i8 : mag d.adc.offset < 128) where
         record {
           high = get_or bytes 0 0;
           low = get_or bytes 1 0;
-          read_2_a = given_here d.link 0x2A 2 bytes [] ∙ two_bytes bytes two;
+          read_2a = given_here d.link 0x2A 2 bytes [] ∙ two_bytes bytes two;
           volts = refl;
           least = range.0;
           most = range.1;

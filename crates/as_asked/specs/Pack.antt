@@ -15,7 +15,7 @@ module _ (d : BQ769x0) (seen : List Made) where
     -- the bytes that were read of 2A and 2B
     pub high : ℕ
     pub low : ℕ
-    pub read_2_a : read_from d.link seen 0x2A ≡ high ∷ low ∷ []
+    pub read_2a : read_from d.link seen 0x2A ≡ high ∷ low ∷ []
     -- the offset once per fitted cell, by the record's count
     pub volts : mv ≡ pack_millivolts d.cell_count d.adc.gain d.adc.offset (word high low)
     pub least : neg_ℤ (pos 1920) ≤ℤ mv

@@ -5,7 +5,7 @@ use mathlib.Core.Path.{◌≡◌, refl, ap}
 use Rattle.laws.proofs.Inverse.{one_to_one}
 use Rattle.laws.proofs.Variants.{by_variants}
 use Rattle.refusals.proofs.OneToOne.{answer_back, undone}
-use Rattle.protection.specs.Answers.{as_code, as_range, as_sCDStep, as_oCDStep}
+use Rattle.protection.specs.Answers.{as_code, as_range, as_scd_step, as_ocd_step}
 use Rattle.protection.specs.Scd as scd
 use Rattle.protection.specs.Ocd as ocd
 use Rattle.protection.specs.declared.range.Code.{Code}
@@ -43,11 +43,11 @@ range_undone : (r : RangeAnswer) → answer_back R.Use R.Refused (as_range r) �
 range_undone (R.Use range) = refl
 range_undone (R.Refused e) = ap R.Refused (undone e)
 
-scd_undone : (s : SCDStep) → answer_back (λ n. S.Step (scd.named n)) S.Refused (as_sCDStep s) ≡ s
+scd_undone : (s : SCDStep) → answer_back (λ n. S.Step (scd.named n)) S.Refused (as_scd_step s) ≡ s
 scd_undone (S.Step t) = ap S.Step (scd_named_lem t)
 scd_undone (S.Refused e) = ap S.Refused (undone e)
 
-ocd_undone : (s : OCDStep) → answer_back (λ n. O.Step (ocd.named n)) O.Refused (as_oCDStep s) ≡ s
+ocd_undone : (s : OCDStep) → answer_back (λ n. O.Step (ocd.named n)) O.Refused (as_ocd_step s) ≡ s
 ocd_undone (O.Step t) = ap O.Step (ocd_named_lem t)
 ocd_undone (O.Refused e) = ap O.Refused (undone e)
 
@@ -57,8 +57,8 @@ code_agree = one_to_one as_code (answer_back C.Bits C.Refused) code_undone
 pub range_agree : (a b : RangeAnswer) → as_range a ≡ as_range b → a ≡ b
 range_agree = one_to_one as_range (answer_back R.Use R.Refused) range_undone
 
-pub scd_step_agree : (a b : SCDStep) → as_sCDStep a ≡ as_sCDStep b → a ≡ b
-scd_step_agree = one_to_one as_sCDStep (answer_back (λ n. S.Step (scd.named n)) S.Refused) scd_undone
+pub scd_step_agree : (a b : SCDStep) → as_scd_step a ≡ as_scd_step b → a ≡ b
+scd_step_agree = one_to_one as_scd_step (answer_back (λ n. S.Step (scd.named n)) S.Refused) scd_undone
 
-pub ocd_step_agree : (a b : OCDStep) → as_oCDStep a ≡ as_oCDStep b → a ≡ b
-ocd_step_agree = one_to_one as_oCDStep (answer_back (λ n. O.Step (ocd.named n)) O.Refused) ocd_undone
+pub ocd_step_agree : (a b : OCDStep) → as_ocd_step a ≡ as_ocd_step b → a ≡ b
+ocd_step_agree = one_to_one as_ocd_step (answer_back (λ n. O.Step (ocd.named n)) O.Refused) ocd_undone

@@ -18,13 +18,13 @@ abbrev pub as_code : Code → Answer ℕ
 as_code (C.Bits n) = value n
 as_code (C.Refused e) = refused (as_refusal e)
 
-abbrev pub as_sCDStep : SCDStep → Answer ℕ
-as_sCDStep (S.Step t) = value (scd.mv_of t)
-as_sCDStep (S.Refused e) = refused (as_refusal e)
+abbrev pub as_scd_step : SCDStep → Answer ℕ
+as_scd_step (S.Step t) = value (scd.mv_of t)
+as_scd_step (S.Refused e) = refused (as_refusal e)
 
-abbrev pub as_oCDStep : OCDStep → Answer ℕ
-as_oCDStep (O.Step t) = value (ocd.mv_of t)
-as_oCDStep (O.Refused e) = refused (as_refusal e)
+abbrev pub as_ocd_step : OCDStep → Answer ℕ
+as_ocd_step (O.Step t) = value (ocd.mv_of t)
+as_ocd_step (O.Refused e) = refused (as_refusal e)
 
 abbrev pub as_range : RangeAnswer → Answer OCDSCDRange
 as_range (R.Use range) = value range

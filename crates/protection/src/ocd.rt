@@ -1,6 +1,6 @@
 // The steps at which an overcurrent trips.
 ghost use Rattle.std.specs.Prelude.{◌≡◌, ◌++◌};
-ghost use Rattle.protection.specs.Answers.{as_code, as_oCDStep};
+ghost use Rattle.protection.specs.Answers.{as_code, as_ocd_step};
 ghost use Rattle.protection.specs.Ranges.{code_for, range_for};
 ghost use Rattle.protection.specs.Inside.{row_for, On, ocd_line};
 ghost use Rattle.protection.specs.Steps.{ocd_lower, ocd_upper, step, step_for};
@@ -91,7 +91,7 @@ impl OCDThreshold {
     }
 
     pub fn from_current(threshold: Amperes, shunt: MicroOhms) -> OCDStep
-        ensures { as_oCDStep result ≡ step_for (ocd_lower ++ ocd_upper) threshold.0 shunt.0 }
+        ensures { as_ocd_step result ≡ step_for (ocd_lower ++ ocd_upper) threshold.0 shunt.0 }
     {
         match crate::mv_across(threshold, shunt) {
             Across::Mv(mv) => OCDStep::Step(OCDThreshold::from_mv(mv)),

@@ -1,6 +1,6 @@
 // The steps at which a short circuit trips.
 ghost use Rattle.std.specs.Prelude.{◌≡◌, ◌++◌};
-ghost use Rattle.protection.specs.Answers.{as_code, as_sCDStep};
+ghost use Rattle.protection.specs.Answers.{as_code, as_scd_step};
 ghost use Rattle.protection.specs.Ranges.{code_for, range_for};
 ghost use Rattle.protection.specs.Inside.{row_for, On, scd_line};
 ghost use Rattle.protection.specs.Steps.{scd_lower, scd_upper, step, step_for};
@@ -69,7 +69,7 @@ impl SCDThreshold {
     }
 
     pub fn from_current(threshold: Amperes, shunt: MicroOhms) -> SCDStep
-        ensures { as_sCDStep result ≡ step_for (scd_lower ++ scd_upper) threshold.0 shunt.0 }
+        ensures { as_scd_step result ≡ step_for (scd_lower ++ scd_upper) threshold.0 shunt.0 }
     {
         match crate::mv_across(threshold, shunt) {
             Across::Mv(mv) => SCDStep::Step(SCDThreshold::from_mv(mv)),
