@@ -178,8 +178,8 @@ module _ (gain : ℕ) (offset : ℤ) (config : Config) {steps : InMv} (g : Given
         record {
           range = sym (ap₂ choice g.scd_is g.ocd_is) ∙ made.1.0 ∙ ap value in-range;
           fields = table_is ∙ ap₂ (λ (x y : ℕ). fields_of gain offset config x y p.values.range) g.scd_is g.ocd_is;
-          scd_step_lem = a ∙ g.scd_is;
-          ocd_step_lem = b ∙ g.ocd_is;
+          scd_step_is = a ∙ g.scd_is;
+          ocd_step_is = b ∙ g.ocd_is;
           scd_delay_is = ap (λ (f : Fields). get_or scd_times f.scd_delay 0) table_is ∙ scd_names config.scd_delay;
           ocd_delay_is = ap (λ (f : Fields). get_or ocd_times f.ocd_delay 0) table_is ∙ ocd_names config.ocd_delay;
           uv_delay_is = ap (λ (f : Fields). get_or uv_times f.uv_delay 0) table_is ∙ uv_names config.uv_delay;

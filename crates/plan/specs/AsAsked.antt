@@ -33,8 +33,8 @@ module _ (gain : ℕ) (offset : ℤ) (config : Config) (six : List ℕ) (v : Val
     -- each field holds its code, the reserved ones 0
     pub fields : table ≡ fields_of gain offset config (scd_step config) (ocd_step config) v.range
     -- where each step's code points in the range's list, the step stands
-    pub scd_step_lem : step_at scd_lower scd_upper table.scd_thresh ≡ scd_step config
-    pub ocd_step_lem : step_at ocd_lower ocd_upper table.ocd_thresh ≡ ocd_step config
+    pub scd_step_is : step_at scd_lower scd_upper table.scd_thresh ≡ scd_step config
+    pub ocd_step_is : step_at ocd_lower ocd_upper table.ocd_thresh ≡ ocd_step config
     -- where each delay's code points in the datasheet's list, the time in the delay's name stands
     pub scd_delay_is : get_or scd_times table.scd_delay 0 ≡ scd_named config.scd_delay
     pub ocd_delay_is : get_or ocd_times table.ocd_delay 0 ≡ ocd_named config.ocd_delay

@@ -34,8 +34,8 @@ unfoldable pub record_for : List ℕ → Answer BQ769x0
 record_for job = job_of job and_then λ wanted. device_made wanted.device
 
 abbrev pub brought_by : Answer BQ769x0 → List ℕ → (ℕ → Option ℕ) → ℕ
-brought_by (value d) six cuts = brought d cuts six
-brought_by (refused r) six cuts = 0
+brought_by (value d) bytes cuts = brought d cuts bytes
+brought_by (refused r) bytes cuts = 0
 
 -- of the six so many are new: the most that one of the calls brought
 abbrev pub new_of : (job : List ℕ) {c c' : Chip} → Inits job c c' → ℕ

@@ -20,8 +20,8 @@ ghost use Rattle.job_setup.specs.JobInit.{job_init};
 ghost use Rattle.firmware.specs.Handed.{handed, as_c, as_done};
 ghost use Rattle.firmware.specs.JobBalance.{job_balance_set};
 ghost use Rattle.recovered.specs.ForC.{call_for_c};
-ghost use Rattle.recovered.specs.InitForC as init_for_c;
-ghost use Rattle.recovered.specs.SetForC as set_for_c;
+ghost use Rattle.recovered.specs.InitForC as of_init;
+ghost use Rattle.recovered.specs.SetForC as of_set;
 
 use bq769x0::BQ769x0;
 use bus::Cursor;
@@ -41,7 +41,7 @@ pub fn init(device: BQ769x0, config: Config, tape: &[u8], log: &mut [u8], at: Cu
 pub fn init_for_c(job: &[u8], tape: &[u8], log: &mut [u8], out: &mut [u8; 36]) -> u8
     ensures { handed result out.new log.new
         ≡ as_c (on_tape (job_init job.now) (lent_bus tape log start))
-        × init_for_c.Demand3 job.now (call_for_c tape log result out.new) }
+        × of_init.Demand3 job.now (call_for_c tape log result out.new) }
 {
     firmware::bq769x0_init(job, tape, log, out)
 }
@@ -77,7 +77,7 @@ pub fn balance_set_for_c(
 ) -> u8
     ensures { handed result out.new log.new
         ≡ as_done (on_tape (job_balance_set device.now set limit) (lent_bus tape log start))
-        × set_for_c.Demand3 device.now set limit (call_for_c tape log result out.new) }
+        × of_set.Demand3 device.now set limit (call_for_c tape log result out.new) }
 {
     firmware::bq769x0_balance_set(device, set, limit, tape, log, out)
 }
