@@ -55,7 +55,7 @@ pub(crate) fn least(a: usize, b: usize) -> usize {
 }
 
 fn line(rt: &HostRuntime, log: &[u8], i: usize) -> io::Result<()> {
-    transfer(rt, Stream::Out, log, i)?;
+    transfer(rt, text::OUT, log, i)?;
     text::words(rt, b"\n")
 }
 

@@ -3,7 +3,6 @@ use crate::log_fields;
 use bus::Cursor;
 use refusals::Error;
 use std::io;
-use text::Stream;
 
 // As many bytes of a tape's field as are shown.
 const SHOWN: usize = 16;
@@ -62,9 +61,9 @@ pub fn in_job(rt: &HostRuntime, e: Error, job: &[u8], at: usize, tag: u8) -> io:
     } else {
         text::aside(rt, b": in the job, no field")?;
     }
-    text::hex_to(rt, Stream::Aside, tag)?;
+    text::hex_to(rt, text::ASIDE, tag)?;
     text::aside(rt, b" at byte")?;
-    text::number_to(rt, Stream::Aside, at as u64)?;
+    text::number_to(rt, text::ASIDE, at as u64)?;
     text::aside(rt, b"\n")
 }
 
@@ -72,7 +71,7 @@ fn named_call(rt: &HostRuntime, e: Error, call: usize) -> io::Result<()> {
     line(rt, e)?;
     named(rt, e)?;
     text::aside(rt, b": call")?;
-    text::number_to(rt, Stream::Aside, call as u64)
+    text::number_to(rt, text::ASIDE, call as u64)
 }
 
 // At a call; they are counted from 1.
@@ -123,9 +122,9 @@ pub fn wanted(
     at: Cursor,
     next: Cursor,
 ) -> io::Result<()> {
-    log_fields::transfer(rt, Stream::Aside, log, next.log.wrapping_sub(at.log))?;
+    log_fields::transfer(rt, text::ASIDE, log, next.log.wrapping_sub(at.log))?;
     text::aside(rt, b"; byte")?;
-    text::number_to(rt, Stream::Aside, next.tape as u64)?;
+    text::number_to(rt, text::ASIDE, next.tape as u64)?;
     text::aside(rt, b" of the tape has")?;
     held(rt, tape, next.tape)?;
     text::aside(rt, b"\n")
@@ -141,7 +140,7 @@ fn held(rt: &HostRuntime, tape: &[u8], at: usize) -> io::Result<()> {
     let there = log_fields::least(size, left);
     log_fields::bytes(
         rt,
-        Stream::Aside,
+        text::ASIDE,
         tape,
         at,
         0,

@@ -12,6 +12,10 @@ pub enum Stream {
     Aside,
 }
 
+pub const OUT: Stream = Stream::Out;
+
+pub const ASIDE: Stream = Stream::Aside;
+
 pub fn words_to(rt: &HostRuntime, stream: Stream, text: &[u8]) -> io::Result<()> {
     match stream {
         Stream::Out => rt.stdout().write_all(text),
