@@ -1,4 +1,5 @@
 -- Each field found lies within the input, and is longer than nothing.
+-- Assumes nothing.
 use Rattle.std.proofs.Common.{sym, arith, rules}
 use Rattle.calls.proofs.Steps.{starts, inside}
 use Rattle.call_text.proofs.in_turn.Goals as goal

@@ -93,6 +93,17 @@ returns-in_default c =
     let t = ap as_raw c.in_default.is in
     rw t (sym (off (goal.at.returns-in_default c).Start c.read_inputs-read.ensures t))
 
+pub returns : goal.returns
+returns c =
+    let s = (goal.at.returns c).Start in
+    let t = ap as_raw c.in-Done.is in
+    let taken = c.read_inputs-read.ensures in
+    let stored =
+    all (x s) (n s) (pack s) (device s).readings c.fitted-fitted.ensures c.read_inputs-read.new.cells taken.room (taken.small t)
+    _ c.by_wiring-wired.ensures _ c.in_turn.ensures c.spread_of-spread.ensures
+    c.stored-cells.ensures in
+    rw t (sym (on s taken t c.fitted-fitted.ensures c.show.ensures stored c.store_readings.ensures))
+
 pub show-requires : goal.show-requires
 show-requires c =
     let s = (goal.at.show-requires c).Start in
@@ -121,14 +132,3 @@ stored-cells-requires c =
     let s = (goal.at.stored-cells-requires c).Start in
     let wide = long s c.read_inputs-read.ensures _ c.in_turn.ensures in
     ((few s).0, omega (arith, few s, wide))
-
-pub returns : goal.returns
-returns c =
-    let s = (goal.at.returns c).Start in
-    let t = ap as_raw c.in-Done.is in
-    let taken = c.read_inputs-read.ensures in
-    let stored =
-    all (x s) (n s) (pack s) (device s).readings c.fitted-fitted.ensures c.read_inputs-read.new.cells taken.room (taken.small t)
-    _ c.by_wiring-wired.ensures _ c.in_turn.ensures c.spread_of-spread.ensures
-    c.stored-cells.ensures in
-    rw t (sym (on s taken t c.fitted-fitted.ensures c.show.ensures stored c.store_readings.ensures))

@@ -18,7 +18,8 @@ loop-i-preserved c =
     let number : c.as_u32.result ≡ as_u32 n = c.as_u32.ensures ∙ ap as_u32 (read_back w32 n c.mv-1.given) in
     let here : c.put4.new.out ≡ put (stored c.loop-i.i c.args.millivolts c.args.list.now) (4 * c.loop-i.i) (four (as_u32 n)) =
     c.put4.ensures ∙ ap₂ (λ (x : List ℕ) (b : ℕ). put x (4 * c.loop-i.i) (four b)) c.loop-i.invariant.0 number in
-    (one_more c.args.list.now _ c.args.millivolts c.loop-i.i (pos 0) (omega arith) (omega arith) here ∙ rw add-one, omega arith, search rules, c.loop-i.invariant.3)
+    let next = one_more c.args.list.now _ c.args.millivolts c.loop-i.i (pos 0) (omega arith) (omega arith) here in
+    (next ∙ rw add-one, omega arith, search rules, c.loop-i.invariant.3)
 
 pub returns : goal.returns
 returns c =
