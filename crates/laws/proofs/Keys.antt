@@ -1,5 +1,5 @@
 -- An arm of a `match` with `|` or `_` on a declared enum: what is known there is that the variant's place is one of the arm's. Where a function
--- of the enum computes to b at each of these places, `by-keys` has it b at the value.
+-- of the enum computes to b at each of these places, `by_keys` has it b at the value.
 -- Assumes nothing.
 use mathlib.Core.Path.{◌≡◌, ◌∙◌}
 use mathlib.Core.List.{List, [], ◌∷◌, map}
@@ -15,7 +15,7 @@ at_key at b (x ∷ []) same k e = cc
 at_key at b (x ∷ y ∷ keys) same k one =
     ⊎_elim (λ (e : k ≡ x). cc) (λ (later : OneOf (y ∷ keys) k). at_key at b (y ∷ keys) (cc) k later) one
 
-pub by-keys :
+pub by_keys :
     {B : Type 0}
     (enum : Record)
     (f : enum.D → B)
@@ -26,5 +26,5 @@ pub by-keys :
     → (d : enum.D)
     → OneOf keys (tag_of (declared enum) d)
     → b ≡ f d
-by-keys enum f at table b keys same d one =
+by_keys enum f at table b keys same d one =
     at_key at b keys same (tag_of (declared enum) d) one ∙ by_variants enum (λ d. at (tag_of (declared enum) d)) f table d

@@ -45,14 +45,14 @@ abbrev pub protect_in : Config → ℕ → ℕ → OCDSCDRange → Protect
 protect_in config scd ocd range =
     protect_of config (of_range range 0 1 * 128) (code_in (of_range range scd_lower scd_upper) scd) (code_in (of_range range ocd_lower ocd_upper) ocd)
 
-protect-is :
+protect_is :
     (config : Config) (scd ocd : ℕ) (range : OCDSCDRange) {p : Protect}
     → protect_for config scd ocd range ≡ value p
     → protect_in config scd ocd range ≡ p
 unfolding protect_for code_for ◌and_then◌
-protect-is config scd ocd R.Lower e = same_value e
-protect-is config scd ocd R.Upper e = same_value e
-protect-is config scd ocd R.Unknown e = refused_not e
+protect_is config scd ocd R.Lower e = same_value e
+protect_is config scd ocd R.Upper e = same_value e
+protect_is config scd ocd R.Unknown e = refused_not e
 
 -- an accepted plan, by the range used
 abbrev pub planned_in : ℕ → ℤ → Config → ℕ → ℕ → OCDSCDRange → Planned
@@ -77,7 +77,7 @@ accepted gain offset config scd ocd {p} e =
     let range = first _ _ uv.1.1 in
     let within = first _ _ range.1.1 in
     let protect = first _ _ within.1.1 in
-    let protect-path = protect-is config scd ocd range.0 protect.1.0 in
+    let protect-path = protect_is config scd ocd range.0 protect.1.0 in
     let ov-path = code_is gain offset config.ov_threshold.0 ov.1.0 in
     let uv-path = code_is gain offset config.uv_threshold.0 uv.1.0 in (
       range.0,

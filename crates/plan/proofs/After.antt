@@ -79,24 +79,24 @@ only_not m n other (value a) only = refl
 only_not {A = A} m n other (refused r) only = ap (λ (a : Answer A). is_no n a) (only r refl) ∙ other
 
 -- what follows the choice of a range refuses with n just where the test of the voltages does, n not being 20
-pub rest-number :
+pub rest_number :
     (n : ℕ) → eqb 20 n ≡ false → (gain : ℕ) (offset : ℤ) (config : Config) (scd ocd : ℕ) (range : OCDSCDRange)
     → is_no n (rest gain offset config scd ocd range) ≡ is_no n (within_for gain offset config.ov_threshold.0 config.uv_threshold.0)
 unfolding set_for
-rest-number n other gain offset config scd ocd range =
+rest_number n other gain offset config scd ocd range =
     next_not n (within_for gain offset config.ov_threshold.0 config.uv_threshold.0) (λ _. settled gain offset config scd ocd range)
     (λ _. next_not n _ _ (λ _. refl) ∙ only_not 20 n other _ (protect_only config scd ocd range))
 
 -- a refusal that comes after 6 is given where 6 is not and what follows gives it
-pub after-6 :
+pub after_6 :
     {A B : Type 0} (n : ℕ) (a : Answer A) (next : A → Answer B) (t : Bool)
     → eqb 6 n ≡ false
     → Only 6 a
     → ((x : A) → is_no n (next x) ≡ t)
     → is_no n (a and_then next) ≡ not (is_no 6 a) && t
 unfolding ◌and_then◌
-after-6 n (value x) next t other only says = says x
-after-6 {A = A} n (refused r) next t other only says =
+after_6 n (value x) next t other only says = says x
+after_6 {A = A} n (refused r) next t other only says =
     ap (λ (a : Answer A). is_no n a) (only r refl) ∙ other ∙ sym (ap (λ (a : Answer A). not (is_no 6 a) && t) (only r refl))
 
 pub shares : {A : Type 0} (a : Answer A) → Only 6 a → is_no 6 a ≡ false → (x : A) × (a ≡ value x)

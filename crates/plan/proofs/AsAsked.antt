@@ -36,8 +36,8 @@ use Rattle.plan.proofs.Accepted.{first, planned_in, accepted}
 use Rattle.plan.proofs.After.{choice}
 use Rattle.plan.proofs.Bytes.{bytes}
 use Rattle.plan.proofs.Codes.{scd_code_is, ocd_code_is}
-use Rattle.plan.proofs.Limits.{ov_exactly, uv_exactly, ov_figures, uv-figures}
-use Rattle.plan.proofs.RangeMismatch.{range-mismatch, mismatch-is}
+use Rattle.plan.proofs.Limits.{ov_exactly, uv_exactly, ov_figures, uv_figures}
+use Rattle.plan.proofs.RangeMismatch.{range_mismatch, mismatch_is}
 use Rattle.plan.proofs.TripPoints.{ov_asked, uv_asked, ov_written, uv_written, uv_wraps}
 
 -- ---- the steps given are those of the configuration, each a step of the published lists
@@ -134,15 +134,15 @@ module _ (gain : ℕ) (offset : ℤ) (config : Config) {steps : InMv} (g : Given
         else when not u then some (no 7 (figures (uv_limits gain offset)))
         else none)
     by_tests true o u a-is o_is u-is =
-        ap of678 (mismatch-is gain offset config g.short g.over g.shunt positive (apart_is ∙ a-is))
+        ap of678 (mismatch_is gain offset config g.short g.over g.shunt positive (apart_is ∙ a-is))
     by_tests false false u a-is o_is u-is =
         ap of678 (ov_figures gain offset config g.short g.over g.shunt positive (apart_is ∙ a-is) o_is)
     by_tests false true false a-is o_is u-is =
-        ap of678 (uv-figures gain offset config g.short g.over g.shunt positive (apart_is ∙ a-is) o_is u-is)
+        ap of678 (uv_figures gain offset config g.short g.over g.shunt positive (apart_is ∙ a-is) o_is u-is)
     by_tests false true true a-is o_is u-is =
         let apart-no = apart_is ∙ a-is in
         none_of named
-        (range-mismatch gain offset config g.short g.over g.shunt positive ∙ apart-no)
+        (range_mismatch gain offset config g.short g.over g.shunt positive ∙ apart-no)
         (uv_exactly gain offset config g.short g.over g.shunt positive ∙ rw (apart-no, o_is, u-is))
         (ov_exactly gain offset config g.short g.over g.shunt positive ∙ rw (apart-no, o_is))
 
@@ -170,13 +170,13 @@ module _ (gain : ℕ) (offset : ℤ) (config : Config) {steps : InMv} (g : Given
 
     pub as_asked_is : AsAsked gain offset config p.regs p.values
     as_asked_is =
-        let in-range = ap (λ (q : Planned). q.values.range) made.1.1 in
+        let in_range = ap (λ (q : Planned). q.values.range) made.1.1 in
         let a = scd_code_is gain offset config s o e' in
         let b = ocd_code_is gain offset config s o e' in
         let c = ap (λ (f : Fields). f.ov_trip) table_is in
         let d = ap (λ (f : Fields). f.uv_trip) table_is in
         record {
-          range = sym (ap₂ choice g.scd_is g.ocd_is) ∙ made.1.0 ∙ ap value in-range;
+          range = sym (ap₂ choice g.scd_is g.ocd_is) ∙ made.1.0 ∙ ap value in_range;
           fields = table_is ∙ ap₂ (λ (x y : ℕ). fields_of gain offset config x y p.values.range) g.scd_is g.ocd_is;
           scd_step_is = a ∙ g.scd_is;
           ocd_step_is = b ∙ g.ocd_is;
@@ -191,5 +191,5 @@ module _ (gain : ℕ) (offset : ℤ) (config : Config) {steps : InMv} (g : Given
           uv_wraps = uv_wraps gain offset config s o e' device byte;
           values =
               sym (ap (λ (q : Planned). q.values) made.1.1)
-              ∙ (λ i. values_for gain offset config.shunt.0 (sym a i) (sym b i) (in-range i) (sym c i) (sym d i));
+              ∙ (λ i. values_for gain offset config.shunt.0 (sym a i) (sym b i) (in_range i) (sym c i) (sym d i));
         }

@@ -12,7 +12,7 @@ use Rattle.plan.specs.Fields.{read_back, fields_of}
 use Rattle.plan.specs.Plan.{Planned, plan_for}
 use Rattle.plan.specs.declared.Config.{Config}
 use Rattle.plan.proofs.Accepted.{accepted}
-use Rattle.plan.proofs.ReadBack.{in-range}
+use Rattle.plan.proofs.ReadBack.{in_range}
 
 module _ (gain : ℕ) (offset : ℤ) (config : Config) (s : SCDThreshold) (o : OCDThreshold) where
   pub bytes :
@@ -22,5 +22,5 @@ module _ (gain : ℕ) (offset : ℤ) (config : Config) (s : SCDThreshold) (o : O
   bytes e =
       let plan = accepted gain offset config (scd.mv_of s) (ocd.mv_of o) e in
       sym (ap (λ (p : Planned). read_back p.regs) plan.1.1)
-      ∙ in-range gain offset config s o plan.0
+      ∙ in_range gain offset config s o plan.0
       ∙ ap (λ (p : Planned). fields_of gain offset config (scd.mv_of s) (ocd.mv_of o) p.values.range) plan.1.1

@@ -52,21 +52,21 @@ range< R.Upper = omega arith
 range< R.Unknown = omega arith
 
 -- a test that each step passes in the lower list and in the upper one, it passes in the list of the range used
-pub by-range :
+pub by_range :
     (test : List ℕ → ℕ → Bool) (enum : Record) (mv : enum.D → ℕ) (lower upper : List ℕ)
     → Each enum (λ step. test lower (mv step))
     → Each enum (λ step. test upper (mv step))
     → (range : OCDSCDRange) (step : enum.D)
     → T (test (of_range range lower upper) (mv step))
-by-range test enum mv lower upper in-lower in-upper R.Lower = each enum (λ step. test lower (mv step)) in-lower
-by-range test enum mv lower upper in-lower in-upper R.Upper = each enum (λ step. test upper (mv step)) in-upper
-by-range test enum mv lower upper in-lower in-upper R.Unknown = each enum (λ step. test lower (mv step)) in-lower
+by_range test enum mv lower upper in-lower in-upper R.Lower = each enum (λ step. test lower (mv step)) in-lower
+by_range test enum mv lower upper in-lower in-upper R.Upper = each enum (λ step. test upper (mv step)) in-upper
+by_range test enum mv lower upper in-lower in-upper R.Unknown = each enum (λ step. test lower (mv step)) in-lower
 
 pub scd_code< : (range : OCDSCDRange) (t : SCDThreshold) → code_in (of_range range scd_lower scd_upper) (scd.mv_of t) < 8
-scd_code< range t = ltb→lt _ 8 (by-range (λ xs n. ltb (code_in xs n) 8) scd-steps.enum scd.mv_of scd_lower scd_upper tt tt range t)
+scd_code< range t = ltb→lt _ 8 (by_range (λ xs n. ltb (code_in xs n) 8) scd-steps.enum scd.mv_of scd_lower scd_upper tt tt range t)
 
 pub ocd_code< : (range : OCDSCDRange) (t : OCDThreshold) → code_in (of_range range ocd_lower ocd_upper) (ocd.mv_of t) < 16
-ocd_code< range t = ltb→lt _ 16 (by-range (λ xs n. ltb (code_in xs n) 16) ocd-steps.enum ocd.mv_of ocd_lower ocd_upper tt tt range t)
+ocd_code< range t = ltb→lt _ 16 (by_range (λ xs n. ltb (code_in xs n) 16) ocd-steps.enum ocd.mv_of ocd_lower ocd_upper tt tt range t)
 
 -- what an answer gives for a range is what the range picks
 pub range_bit_is : (range : OCDSCDRange) {n : ℕ} → range_bits range ≡ value n → of_range range 0 1 * 128 ≡ n
@@ -74,11 +74,11 @@ range_bit_is R.Lower e = same_value e
 range_bit_is R.Upper e = same_value e
 range_bit_is R.Unknown e = refused_not e
 
-pub step-code-is :
+pub step_code_is :
     (lower upper : List ℕ) (range : OCDSCDRange) (n : ℕ) {code : ℕ}
     → code_for lower upper range n ≡ value code
     → code_in (of_range range lower upper) n ≡ code
 unfolding code_for
-step-code-is lower upper R.Lower n e = same_value e
-step-code-is lower upper R.Upper n e = same_value e
-step-code-is lower upper R.Unknown n e = refused_not e
+step_code_is lower upper R.Lower n e = same_value e
+step_code_is lower upper R.Upper n e = same_value e
+step_code_is lower upper R.Unknown n e = refused_not e

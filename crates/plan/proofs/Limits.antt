@@ -16,7 +16,7 @@ use Rattle.plan.specs.Plan.{Planned, plan_for}
 use Rattle.plan.specs.Steps.{bad_shunt}
 use Rattle.plan.specs.Trips.{ov_limits, uv_limits, figures, obtainable, within_for}
 use Rattle.plan.specs.declared.Config.{Config}
-use Rattle.plan.proofs.After.{choice, choice_only, rest, past_9, rest-number, after-6, shares}
+use Rattle.plan.proofs.After.{choice, choice_only, rest, past_9, rest_number, after_6, shares}
 use Rattle.plan.proofs.Obtained.{obtained, unobtained}
 use Rattle.plan.proofs.Order.{past, out}
 use Rattle.plan.proofs.Apart.{choice_apart}
@@ -46,15 +46,15 @@ module _
     pub ov_exactly : is_no 8 (plan_for gain offset config scd_mv ocd_mv) ≡ not (apart scd_mv ocd_mv) && not ov
     ov_exactly =
         ap (λ (a : Answer Planned). is_no 8 a) (past_9 gain offset config scd_mv ocd_mv shunt device)
-        ∙ after-6 8 (choice scd_mv ocd_mv) (rest gain offset config scd_mv ocd_mv) (not ov) refl (choice_only scd_mv ocd_mv)
-        (λ range. rest-number 8 refl gain offset config scd_mv ocd_mv range ∙ within_8 gain offset _ _)
+        ∙ after_6 8 (choice scd_mv ocd_mv) (rest gain offset config scd_mv ocd_mv) (not ov) refl (choice_only scd_mv ocd_mv)
+        (λ range. rest_number 8 refl gain offset config scd_mv ocd_mv range ∙ within_8 gain offset _ _)
         ∙ ap (λ (t : Bool). not t && not ov) (choice_apart s o)
 
     pub uv_exactly : is_no 7 (plan_for gain offset config scd_mv ocd_mv) ≡ not (apart scd_mv ocd_mv) && (ov && not uv)
     uv_exactly =
         ap (λ (a : Answer Planned). is_no 7 a) (past_9 gain offset config scd_mv ocd_mv shunt device)
-        ∙ after-6 7 (choice scd_mv ocd_mv) (rest gain offset config scd_mv ocd_mv) (ov && not uv) refl (choice_only scd_mv ocd_mv)
-        (λ range. rest-number 7 refl gain offset config scd_mv ocd_mv range ∙ within_7 gain offset _ _)
+        ∙ after_6 7 (choice scd_mv ocd_mv) (rest gain offset config scd_mv ocd_mv) (ov && not uv) refl (choice_only scd_mv ocd_mv)
+        (λ range. rest_number 7 refl gain offset config scd_mv ocd_mv range ∙ within_7 gain offset _ _)
         ∙ ap (λ (t : Bool). not t && (ov && not uv)) (choice_apart s o)
 
     pub ov_figures : apart scd_mv ocd_mv ≡ false → ov ≡ false
@@ -64,13 +64,13 @@ module _
         let range = shares (choice scd_mv ocd_mv) (choice_only scd_mv ocd_mv) (choice_apart s o ∙ together) in
         past_9 gain offset config _ _ shunt device ∙ past _ _ range.1 ∙ out _ (out _ (unobtained 8 _ refl outside))
 
-    pub uv-figures :
+    pub uv_figures :
         apart scd_mv ocd_mv ≡ false
         → ov ≡ true
         → uv ≡ false
         → plan_for gain offset config scd_mv ocd_mv ≡ refused (no 7 (figures (uv_limits gain offset)))
     unfolding within_for
-    uv-figures together within outside =
+    uv_figures together within outside =
         let range = shares (choice scd_mv ocd_mv) (choice_only scd_mv ocd_mv) (choice_apart s o ∙ together) in
         past_9 gain offset config _ _ shunt device
         ∙ past _ _ range.1

@@ -21,14 +21,14 @@ use Rattle.plan.proofs.Only.{shunt_only, code_only}
 use Rattle.refusals.proofs.Values.{same_value, refused_not}
 use Rattle.plan.proofs.WithinNumbers.{within_other}
 
-given-not :
+given_not :
     {A B : Type 0} (n : ℕ) (a : Answer A) (next : A → Answer B)
     → is_no n a ≡ false
     → ((x : A) → a ≡ value x → is_no n (next x) ≡ false)
     → is_no n (a and_then next) ≡ false
 unfolding ◌and_then◌
-given-not n (value x) next here later = later x refl
-given-not n (refused r) next here later = here
+given_not n (value x) next here later = later x refl
+given_not n (refused r) next here later = here
 
 -- what holds of both ranges holds of the one chosen
 module _ (P : OCDSCDRange → Type 0) (lower : P R.Lower) (upper : P R.Upper) (range : OCDSCDRange) where
@@ -54,11 +54,11 @@ module _ (gain : ℕ) (offset : ℤ) (config : Config) (scd ocd : ℕ) where
   pub never_20 : is_no 20 (plan_for gain offset config scd ocd) ≡ false
   unfolding plan_for
   never_20 =
-      given-not 20 _ _ (only_not 12 20 refl _ (shunt_only config.shunt.0))
-      (λ _ _. given-not 20 _ _ (only_not 9 20 refl _ (code_only gain offset config.ov_threshold.0))
-      (λ ov_code _. given-not 20 _ _ (only_not 9 20 refl _ (code_only gain offset config.uv_threshold.0))
-      (λ uv_code _. given-not 20 _ _ (only_not 6 20 refl _ (choice_only scd ocd))
-      (λ range is. given-not 20 _ _ (within_other gain offset config.ov_threshold.0 config.uv_threshold.0 20 refl refl)
+      given_not 20 _ _ (only_not 12 20 refl _ (shunt_only config.shunt.0))
+      (λ _ _. given_not 20 _ _ (only_not 9 20 refl _ (code_only gain offset config.ov_threshold.0))
+      (λ ov_code _. given_not 20 _ _ (only_not 9 20 refl _ (code_only gain offset config.uv_threshold.0))
+      (λ uv_code _. given_not 20 _ _ (only_not 6 20 refl _ (choice_only scd ocd))
+      (λ range is. given_not 20 _ _ (within_other gain offset config.ov_threshold.0 config.uv_threshold.0 20 refl refl)
       (λ _ _. set_not range is ov_code uv_code)))))
 
   -- what holds of both ranges holds of the one that an accepted plan reports

@@ -15,7 +15,7 @@ use Rattle.protection.specs.Ranges.{is_in, code_in}
 use Rattle.protection.specs.declared.range.OCDSCDRange.{OCDSCDRange}
 use Rattle.protection.specs.declared.range.OCDSCDRange.TheVariants as R
 use Rattle.plan.specs.Fields.{of_range}
-use Rattle.plan.proofs.Fits.{by-range}
+use Rattle.plan.proofs.Fits.{by_range}
 use Rattle.refusals.proofs.Values.{same_value, refused_not}
 
 -- the range chosen has both steps
@@ -55,5 +55,5 @@ pub in_place :
     → of_range range (is_in (mv step) lower) (is_in (mv step) upper) ≡ true
     → get_or (of_range range lower upper) (code_in (of_range range lower upper) (mv step)) 0 ≡ mv step
 in_place enum mv lower upper in-lower in-upper range step has =
-    at_place (of_range range lower upper) (mv step) (is_true _ (by-range placed enum mv lower upper in-lower in-upper range step))
+    at_place (of_range range lower upper) (mv step) (is_true _ (by_range placed enum mv lower upper in-lower in-upper range step))
     (in_list range (mv step) lower upper ∙ has)

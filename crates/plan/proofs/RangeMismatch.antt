@@ -16,22 +16,22 @@ use Rattle.plan.specs.Plan.{Planned, plan_for}
 use Rattle.plan.specs.Steps.{bad_shunt}
 use Rattle.plan.specs.declared.Config.{Config}
 use Rattle.plan.proofs.WithinNumbers.{within_other}
-use Rattle.plan.proofs.After.{choice, choice_only, rest, past_9, next_not, rest-number}
+use Rattle.plan.proofs.After.{choice, choice_only, rest, past_9, next_not, rest_number}
 use Rattle.plan.proofs.Only.{Only}
 use Rattle.plan.proofs.Order.{out}
 use Rattle.plan.proofs.Apart.{choice_apart}
 
-pub range-mismatch :
+pub range_mismatch :
     (gain : ℕ) (offset : ℤ) (config : Config) (s : SCDThreshold) (o : OCDThreshold)
     → bad_shunt config.shunt.0 ≡ false
     → 0 < gain
     → is_no 6 (plan_for gain offset config (scd.mv_of s) (ocd.mv_of o)) ≡ apart (scd.mv_of s) (ocd.mv_of o)
-range-mismatch gain offset config s o shunt h =
+range_mismatch gain offset config s o shunt h =
     let a = scd.mv_of s in
     let b = ocd.mv_of o in
     ap (λ (a : Answer Planned). is_no 6 a) (past_9 gain offset config a b shunt h)
     ∙ next_not 6 (choice a b) (rest gain offset config a b)
-    (λ range. rest-number 6 refl gain offset config a b range ∙ within_other gain offset _ _ 6 refl refl)
+    (λ range. rest_number 6 refl gain offset config a b range ∙ within_other gain offset _ _ 6 refl refl)
     ∙ choice_apart s o
 
 -- and without figures
@@ -39,11 +39,11 @@ refused_6 : {A : Type 0} (a : Answer A) → Only 6 a → is_no 6 a ≡ true → 
 refused_6 (value x) only e = absurd (false≢true e)
 refused_6 (refused r) only e = only r refl
 
-pub mismatch-is :
+pub mismatch_is :
     (gain : ℕ) (offset : ℤ) (config : Config) (s : SCDThreshold) (o : OCDThreshold)
     → bad_shunt config.shunt.0 ≡ false
     → 0 < gain
     → apart (scd.mv_of s) (ocd.mv_of o) ≡ true
     → plan_for gain offset config (scd.mv_of s) (ocd.mv_of o) ≡ refused (no 6 [])
-mismatch-is gain offset config s o shunt h e =
+mismatch_is gain offset config s o shunt h e =
     past_9 gain offset config _ _ shunt h ∙ out _ (refused_6 (choice _ _) (choice_only _ _) (choice_apart s o ∙ e))

@@ -62,11 +62,11 @@ trip< : (z : ℤ) → trip_code z < 256
 trip< z = rest< (z ÷↓ 16) 256 (omega arith)
 
 module _ (gain : ℕ) (offset : ℤ) (config : Config) (s : SCDThreshold) (o : OCDThreshold) where
-  pub in-range :
+  pub in_range :
       (range : OCDSCDRange)
       → read_back (planned_in gain offset config (scd.mv_of s) (ocd.mv_of o) range).regs
       ≡ fields_of gain offset config (scd.mv_of s) (ocd.mv_of o) range
-  in-range range =
+  in_range range =
       let r< = range< range in
       let sd< = scd_delay< config.scd_delay in
       let sk< = scd_code< range s in

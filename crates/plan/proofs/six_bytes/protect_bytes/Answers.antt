@@ -5,7 +5,7 @@ use Rattle.protection.specs.Scd as scd
 use Rattle.protection.specs.Ocd as ocd
 use Rattle.protection.specs.Steps.{scd_lower, scd_upper, ocd_lower, ocd_upper}
 use Rattle.plan.specs.Registers.{protect_for}
-use Rattle.plan.proofs.Fits.{range<, scd_code<, ocd_code<, range_bit_is, step-code-is}
+use Rattle.plan.proofs.Fits.{range<, scd_code<, ocd_code<, range_bit_is, step_code_is}
 use Rattle.plan.proofs.Only.{range_bits_only, step_code_only}
 use Rattle.plan.proofs.Order.{past, out}
 use Rattle.plan.proofs.six_bytes.protect_bytes.Goals as goal
@@ -33,9 +33,9 @@ with_delays-requires c =
     let steps = c.args.steps in
     let bit = range_bit_is range (sym c.in-Bits.ensures) in
     let bit_few = range< range in
-    let scd_is = step-code-is scd_lower scd_upper range (scd.mv_of steps.scd) (sym c.in-Bits-scd_code.ensures) in
+    let scd_is = step_code_is scd_lower scd_upper range (scd.mv_of steps.scd) (sym c.in-Bits-scd_code.ensures) in
     let scd_few = scd_code< range steps.scd in
-    let ocd_is = step-code-is ocd_lower ocd_upper range (ocd.mv_of steps.ocd) (sym c.in-Bits-ocd_code.ensures) in
+    let ocd_is = step_code_is ocd_lower ocd_upper range (ocd.mv_of steps.ocd) (sym c.in-Bits-ocd_code.ensures) in
     let ocd_few = ocd_code< range steps.ocd in
     (omega arith, omega arith, omega arith)
 
