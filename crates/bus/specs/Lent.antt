@@ -4,8 +4,9 @@ use Rattle.std.specs.Prelude.{◌≡◌, List, ℕ}
 use Rattle.std.specs.Borrow.{Bor, MutBor}
 use denote.Triple.Both.{Both}
 use Rattle.bus.specs.Transfers.{Bus, bus_of}
-use Rattle.bus.specs.Programs.{Prog, ran, on_tape}
+use Rattle.bus.specs.Programs.{Prog, ends, on_tape}
 use Rattle.bus.specs.declared.Cursor.{Cursor}
+use Rattle.bus.specs.declared.Bus as code
 
 -- a caller's bytes: as the function finds them, and as it leaves them; and so of bytes that it may change
 abbrev pub Lent : Type 0
@@ -18,7 +19,16 @@ LentMut = Both (MutBor (List ℕ)) (MutBor (List ℕ))
 abbrev pub lent_bus : Lent → LentMut → Cursor → Bus
 lent_bus tape log at = bus_of tape.entry.now log.entry.now at
 
--- from there on it answers, leaves the log and hands on the cursor as its program does
-abbrev pub does : {A : Type 0} → Prog A → Lent → LentMut → Cursor → A → Cursor → Type 0
-does program tape log at answer next =
-    ran answer tape.entry.now log.exit.now next ≡ on_tape program (lent_bus tape log at)
+-- the code's bus: the bytes behind its references, and how far they are used
+abbrev pub held : code.Bus → Bus
+held b = bus_of b.tape.now b.log.now b.at
+
+-- a bus that is lent to be used further, as the function finds it and as it leaves it
+abbrev pub LentBus : Type 0
+LentBus = Both (MutBor code.Bus) (MutBor code.Bus)
+
+-- the function answers, and leaves tape, log and cursor, as its program does; and its log is the caller's still
+abbrev pub does : {A : Type 0} → Prog A → LentBus → A → Type 0
+does program bus answer =
+    (ends answer (held bus.exit.now) ≡ on_tape program (held bus.entry.now))
+    × (bus.exit.now.log.ghost_name ≡ bus.entry.now.log.ghost_name)

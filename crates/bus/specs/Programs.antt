@@ -15,6 +15,9 @@ pub record Ran (A : Type 0) : Type 0 where
   pub answer : A
   pub bus : Bus
 
+abbrev pub ends : {A : Type 0} → A → Bus → Ran A
+ends a b = record { answer = a; bus = b }
+
 abbrev pub ran : {A : Type 0} → A → List ℕ → List ℕ → Cursor → Ran A
 ran a tape log at = record { answer = a; bus = bus_of tape log at }
 

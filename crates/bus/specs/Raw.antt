@@ -1,7 +1,8 @@
 -- Reading and writing a chip's registers, with check bytes and without, as programs over transfers.
 -- Assumes nothing.
-use Rattle.std.specs.Prelude.{ℕ, suc, ◌+◌, ◌*◌, Bool, not, ◌&&◌, ◌||◌, List, [], ◌∷◌, length, replicate, pos, eqb, leb, ltb}
-use Rattle.refusals.specs.Refusal.{no, Answer, value, refused, answering, as_refusal}
+use Rattle.std.specs.Prelude.{ℕ, suc, ◌+◌, ◌*◌, Bool, not, ◌&&◌, ◌||◌, List, [], ◌∷◌, length, replicate, pos, eqb, leb, ltb, Result}
+use Rattle.refusals.specs.Refusal.{no, Answer, value, refused, answering, as_answer}
+use Rattle.refusals.specs.declared.Error.{Error}
 use Rattle.sizes.specs.Sizes.{is_size}
 use Rattle.frames.specs.Frames.{read_byte, right, data_of, write_frame}
 use Rattle.frames.specs.Put.{put}
@@ -9,8 +10,6 @@ use Rattle.laws.specs.Choice.{when◌then◌else◌}
 use Rattle.bus.specs.Transfers.{read, write, Outcome, done, fault, stopped}
 use Rattle.bus.specs.Programs.{Prog, ret, ask, bind, ◌or_leave◌, ◌>>=◌}
 use Rattle.bus.specs.declared.link.Link.{Link}
-use Rattle.bus.specs.declared.link.RawAnswer.{RawAnswer}
-use Rattle.bus.specs.declared.link.RawAnswer.TheVariants as R
 
 -- a 7-bit address, and a device's count of inputs
 abbrev pub sound : Link → Bool
@@ -20,9 +19,8 @@ sound s = leb s.address 127 && is_size s.x
 abbrev pub Done : Type 0
 Done = Unit {0}
 
-abbrev pub as_raw : RawAnswer → Answer Done
-as_raw R.Done = value tt
-as_raw (R.Refused e) = refused (as_refusal e)
+abbrev pub as_raw : Result Done Error → Answer Done
+as_raw = as_answer (λ _. tt)
 
 -- ---- reading: the answer, and the caller's bytes then
 pub record Read : Type 0 where

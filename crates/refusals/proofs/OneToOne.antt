@@ -1,10 +1,11 @@
 -- A refusal's number and figures tell which case it is: `as_refusal` has a left inverse.
 -- Assumes nothing.
-use mathlib.Core.Path.{◌≡◌, refl}
+use mathlib.Core.Path.{◌≡◌, refl, ap}
+use Rattle.std.specs.Prelude.{Result, Ok, Err}
 use lib.IntN.{nat_abs}
 use Rattle.laws.proofs.Inverse.{one_to_one}
 use Rattle.laws.proofs.Variants.{by_variants}
-use Rattle.refusals.specs.Refusal.{Refusal, Answer, value, refused, as_refusal, in_numbers}
+use Rattle.refusals.specs.Refusal.{Refusal, Answer, value, refused, as_refusal, as_answer, in_numbers}
 use Rattle.refusals.specs.Inside.{case_of}
 use Rattle.refusals.specs.declared.Error.{Error}
 use Rattle.refusals.specs.declared.Row.{Row}
@@ -30,3 +31,16 @@ as_refusal_one = one_to_one as_refusal case_back undone
 abbrev pub answer_back : {A B : Type 0} → (B → A) → (Error → A) → Answer B → A
 answer_back made refuse (value b) = made b
 answer_back made refuse (refused r) = refuse (case_back r)
+
+-- two answers of the code that tell one thing are one, where no two values tell one thing
+module _ {A B : Type 0} (said : A → B) (back : B → A) (undone_value : (a : A) → back (said a) ≡ a) where
+  made_back : Answer B → Result A Error
+  made_back = answer_back (λ b. Ok (back b)) Err
+
+  answer_undone : (a : Result A Error) → made_back (as_answer said a) ≡ a
+  unfolding made_back
+  answer_undone (Ok a) = ap Ok (undone_value a)
+  answer_undone (Err e) = ap Err (undone e)
+
+  pub answer_agree : (a b : Result A Error) → as_answer said a ≡ as_answer said b → a ≡ b
+  answer_agree = one_to_one (as_answer said) made_back answer_undone

@@ -1,6 +1,6 @@
 -- The numbers that a call can refuse with, and the figures named with them: the table, one line a refusal.
 -- Assumes nothing.
-use Rattle.std.specs.Prelude.{ℕ, Bool, true, false, List, [], ◌∷◌, length, get_or, ℤ, pos}
+use Rattle.std.specs.Prelude.{ℕ, Bool, true, false, List, [], ◌∷◌, length, get_or, ℤ, pos, Result, Ok, Err}
 use Rattle.refusals.specs.declared.Error.{Error}
 use Rattle.refusals.specs.declared.Error.TheVariants as E
 use Rattle.refusals.specs.declared.InNumbers.{InNumbers}
@@ -66,6 +66,11 @@ as_refusal E.NoSuchInput = no 21 []
 as_refusal E.NotOnDevice = no 22 []
 as_refusal E.Neighbours = no 23 []
 as_refusal E.TooManyCells = no 24 []
+
+-- an answer of the code, whose value says what `said` reads from it
+abbrev pub as_answer : {A B : Type 0} → (A → B) → Result A Error → Answer B
+as_answer said (Ok a) = value (said a)
+as_answer said (Err e) = refused (as_refusal e)
 
 -- the same as the code hands it on: the count of the figures, and zero for one that is not there
 abbrev pub in_numbers : Refusal → InNumbers
