@@ -4,7 +4,7 @@ use Rattle.std.specs.Prelude.{◌≡◌, List, [], ◌∷◌, ◌++◌, ℕ, ◌
 use Rattle.std.proofs.Math.Option.{Option, none, some}
 use Rattle.bus.specs.Transfers.{Transfer, tape_field, bus_of}
 use Rattle.bus.specs.Programs.{Prog, on_tape, ran}
-use Rattle.bus.specs.Lent.{Lent, LentMut}
+use Rattle.bus.specs.Lent.{Lent, LentMut, LentBus}
 use Rattle.bus.specs.Decoders.{transfers_in}
 use Rattle.bus.specs.declared.Cursor.{Cursor}
 use Rattle.chip.specs.Devices.{tape_of}
@@ -22,9 +22,20 @@ pub record Call (A : Type 0) : Type 0 where
   pub log' : List ℕ
   pub at' : Cursor
 
--- of a function with a lent tape and log
-abbrev pub lent_call : {A : Type 0} → Lent → LentMut → Cursor → A → Cursor → Call A
-lent_call tape log at gave at' = record {
+-- of a function on a bus that it is lent
+abbrev pub lent_call : {A : Type 0} → LentBus → A → Call A
+lent_call bus gave = record {
+  tape = bus.entry.now.tape.now;
+  log = bus.entry.now.log.now;
+  at = bus.entry.now.at;
+  gave = gave;
+  log' = bus.exit.now.log.now;
+  at' = bus.exit.now.at;
+}
+
+-- of a function for C, with a lent tape and log
+abbrev pub call_on : {A : Type 0} → Lent → LentMut → Cursor → A → Cursor → Call A
+call_on tape log at gave at' = record {
   tape = tape.entry.now;
   log = log.entry.now;
   at = at;
