@@ -5,9 +5,10 @@ ghost use Rattle.std.specs.Prelude.{◌≡◌};
 ghost use Rattle.refusals.specs.Refusal.{as_refusal, in_numbers};
 ghost use Rattle.refusals.specs.Inside.{case_of, row_numbers};
 
+use std::fmt;
 use units::MilliVolts;
 
-#[derive(Clone, Copy)]
+#[derive(Clone, Copy, Debug, PartialEq, Eq)]
 pub enum Error {
     CRCMismatch,
     I2CError,
@@ -34,6 +35,45 @@ pub enum Error {
     Neighbours,
     TooManyCells,
 }
+
+// Its name, for a person.
+impl fmt::Display for Error {
+    ghost use Rattle.std.specs.Prelude.{Some};
+    ghost use Rattle.refusals.specs.Names.{name_of};
+
+    ghost output = { λ e. Some (name_of e) };
+
+    fn fmt<W: fmt::Write>(&self, f: &mut fmt::Formatter<W>) -> fmt::Result {
+        f.write_str(match self {
+            Error::CRCMismatch => "CRCMismatch",
+            Error::I2CError => "I2CError",
+            Error::BufTooLarge => "BufTooLarge",
+            Error::Uninitialized => "Uninitialized",
+            Error::VerifyError(_) => "VerifyError",
+            Error::OCDSCDRangeMismatch => "OCDSCDRangeMismatch",
+            Error::UVThresholdUnobtainable(_, _) => "UVThresholdUnobtainable",
+            Error::OVThresholdUnobtainable(_, _) => "OVThresholdUnobtainable",
+            Error::BadDevice => "BadDevice",
+            Error::BadCellCount => "BadCellCount",
+            Error::BadAddress => "BadAddress",
+            Error::BadShunt => "BadShunt",
+            Error::CurrentTooLarge => "CurrentTooLarge",
+            Error::RegisterRunsOut => "RegisterRunsOut",
+            Error::BadTape => "BadTape",
+            Error::TapeEnded => "TapeEnded",
+            Error::LogFull => "LogFull",
+            Error::UnknownFlags => "UnknownFlags",
+            Error::NoRoom => "NoRoom",
+            Error::UnknownRange => "UnknownRange",
+            Error::NoSuchInput => "NoSuchInput",
+            Error::NotOnDevice => "NotOnDevice",
+            Error::Neighbours => "Neighbours",
+            Error::TooManyCells => "TooManyCells",
+        })
+    }
+}
+
+impl std::error::Error for Error {}
 
 // A refusal as numbers: its number, how many figures it names, and those; a figure that it does not name is 0.
 #[derive(Clone, Copy)]
