@@ -1,35 +1,23 @@
--- Two outcomes that meet one promise agree: in the answer, the record, the tape's and the log's position, and the log's bytes.
+-- Two outcomes that meet one promise agree: in the answer, in the record, and in tape, log and both positions.
 -- Assumes nothing.
 use mathlib.Core.Path.{◌≡◌, refl, sym, ap, ◌∙◌}
-use Prim.Native.Nat.{ℕ}
-use mathlib.Core.List.{List}
-use Rattle.laws.proofs.Inverse.{one_to_one}
+use Rattle.std.specs.Prelude.{Result}
 use Rattle.refusals.specs.Refusal.{Answer}
-use Rattle.refusals.proofs.OneToOne.{answer_back, undone}
+use Rattle.refusals.specs.declared.Error.{Error}
+use Rattle.refusals.proofs.OneToOne.{answer_agree}
 use Rattle.bus.specs.Transfers.{Bus}
-use Rattle.bus.specs.Programs.{Prog, Ran, ran, on_tape}
+use Rattle.bus.specs.Programs.{Prog, Ran, ends, on_tape}
 use Rattle.bus.specs.Raw.{Done}
-use Rattle.bus.specs.declared.Cursor.{Cursor}
 use Rattle.bq769x0.specs.Record.{unread, head_of, with_head, Left, leaves, as_made, as_new}
 use Rattle.bq769x0.specs.declared.BQ769x0.{BQ769x0}
 use Rattle.bq769x0.specs.declared.Head.{Head}
 use Rattle.bq769x0.specs.declared.Readings.{Readings}
 use Rattle.bq769x0.specs.declared.record.New.{New}
 use Rattle.bq769x0.specs.declared.record.NewHead.{NewHead}
-use Rattle.bq769x0.specs.declared.record.NewAnswer.{NewAnswer}
-use Rattle.bq769x0.specs.declared.record.NewAnswer.TheVariants as N
 
 -- `new`
-made : Done → NewAnswer
-made x = N.Made
-
-made_undone : (a : NewAnswer) → answer_back made N.Refused (as_made a) ≡ a
-unfolding made
-made_undone N.Made = refl
-made_undone (N.Refused e) = ap N.Refused (undone e)
-
-made_agree : (a b : NewAnswer) → as_made a ≡ as_made b → a ≡ b
-made_agree = one_to_one as_made (answer_back made N.Refused) made_undone
+made_agree : (a b : Result Done Error) → as_made a ≡ as_made b → a ≡ b
+made_agree = answer_agree (λ _. tt) (λ _. tt) (λ _. refl)
 
 pub new_agree : (r r' : New) → as_new r ≡ as_new r' → r ≡ r'
 new_agree r r' e =
@@ -50,16 +38,15 @@ new_head_agree r r' e =
     let h = head_agree r.head r'.head unread (ap (λ (x : Left Done). x.device) e) in
     λ i. record { head = h i; answer = a i }
 
--- a call that answers, leaves a record and moves the cursor, whatever its program
+-- a call that answers and leaves a record, whatever its program
 module _ {A : Type 0} (p : Prog (Left A)) (b : Bus) where
-  pub left_agree : (a a' : Answer A) (d d' : BQ769x0) (log log' : List ℕ) (at at' : Cursor)
-      → ran (leaves a d) b.tape log at ≡ on_tape p b
-      → ran (leaves a' d') b.tape log' at' ≡ on_tape p b
-      → (a ≡ a') × (d ≡ d') × (at ≡ at') × (log ≡ log')
-  left_agree a a' d d' log log' at at' e e' =
+  pub left_agree : (a a' : Answer A) (d d' : BQ769x0) (after after' : Bus)
+      → ends (leaves a d) after ≡ on_tape p b
+      → ends (leaves a' d') after' ≡ on_tape p b
+      → (a ≡ a') × (d ≡ d') × (after ≡ after')
+  left_agree a a' d d' after after' e e' =
       let same = e ∙ sym e' in (
         ap (λ (x : Ran (Left A)). x.answer.answer) same,
         ap (λ (x : Ran (Left A)). x.answer.device) same,
-        ap (λ (x : Ran (Left A)). x.bus.at) same,
-        ap (λ (x : Ran (Left A)). x.bus.log) same,
+        ap (λ (x : Ran (Left A)). x.bus) same,
       )

@@ -1,7 +1,8 @@
 -- The driver's record: what `new` gives, when a record is sound, and the ways in which calls change it.
 -- Assumes nothing.
-use Rattle.std.specs.Prelude.{ℕ, Bool, true, false, not, ◌&&◌, ◌||◌, ◌≡◌, eqb, leb, ltb, ℤ, pos, negsuc, replicate}
-use Rattle.refusals.specs.Refusal.{Refusal, Answer, value, refused, refused_if, as_refusal}
+use Rattle.std.specs.Prelude.{ℕ, Bool, true, false, not, ◌&&◌, ◌||◌, ◌≡◌, eqb, leb, ltb, ℤ, pos, negsuc, replicate, Result}
+use Rattle.refusals.specs.Refusal.{Refusal, Answer, value, refused, refused_if, as_answer}
+use Rattle.refusals.specs.declared.Error.{Error}
 use Rattle.sizes.specs.Sizes.{within}
 use Rattle.wiring.specs.Packs.{of_pack}
 use Rattle.laws.specs.Choice.{when◌then◌else◌}
@@ -14,8 +15,6 @@ use Rattle.bq769x0.specs.declared.BQ769x0.{BQ769x0}
 use Rattle.bq769x0.specs.declared.Head.{Head}
 use Rattle.bq769x0.specs.declared.Readings.{Readings}
 use Rattle.bq769x0.specs.declared.record.New.{New}
-use Rattle.bq769x0.specs.declared.record.NewAnswer.{NewAnswer}
-use Rattle.bq769x0.specs.declared.record.NewAnswer.TheVariants as N
 
 -- 9, 10, 11
 unfoldable pub device_allowed : ℕ → ℕ → ℕ → Answer Done
@@ -81,9 +80,8 @@ leaves a d = record { answer = a; device = d }
 abbrev pub leaving : {A : Type 0} → BQ769x0 → Refusal → Left A
 leaving d r = leaves (refused r) d
 
-abbrev pub as_made : NewAnswer → Answer Done
-as_made N.Made = value tt
-as_made (N.Refused e) = refused (as_refusal e)
+abbrev pub as_made : Result Done Error → Answer Done
+as_made = as_answer (λ _. tt)
 
 abbrev pub as_new : New → Left Done
 as_new r = leaves (as_made r.answer) r.device
