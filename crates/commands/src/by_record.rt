@@ -3,43 +3,29 @@ ghost use Rattle.bus.specs.Lent.{does};
 ghost use Rattle.bus.specs.Raw.{as_raw, gives};
 ghost use Rattle.bq769x0.specs.Registers.{read_raw, write_raw};
 
-use crate::register;
 use bq769x0::BQ769x0;
-use bus::Cursor;
-use bus::link::Raw;
+use bus::Bus;
 use refusals::Error;
 
 pub fn read_raw(
-    device: BQ769x0,
+    device: &BQ769x0,
     reg_address: u8,
     data: &mut [u8],
-    tape: &[u8],
-    log: &mut [u8],
-    at: Cursor,
-) -> Raw
-    ensures { does (read_raw device reg_address «data».old) tape log at
-        (gives (as_raw result.answer) «data».new) result.at }
+    bus: &mut Bus,
+) -> Result<(), Error>
+    ensures { does (read_raw device.now reg_address «data».old) bus (gives (as_raw result) «data».new) }
 {
     if !device.is_sound() {
-        return register::refuse(Error::BadDevice, at);
+        return Err(Error::BadDevice);
     }
-    let link = device.link;
-    raw::read_raw(link, reg_address, data, tape, log, at)
+    raw::read_raw(device.link, reg_address, data, bus)
 }
 
-pub fn write_raw(
-    device: BQ769x0,
-    reg_address: u8,
-    data: &[u8],
-    tape: &[u8],
-    log: &mut [u8],
-    at: Cursor,
-) -> Raw
-    ensures { does (write_raw device reg_address «data».now) tape log at (as_raw result.answer) result.at }
+pub fn write_raw(device: &BQ769x0, reg_address: u8, data: &[u8], bus: &mut Bus) -> Result<(), Error>
+    ensures { does (write_raw device.now reg_address «data».now) bus (as_raw result) }
 {
     if !device.is_sound() {
-        return register::refuse(Error::BadDevice, at);
+        return Err(Error::BadDevice);
     }
-    let link = device.link;
-    raw::write_raw(link, reg_address, data, tape, log, at)
+    raw::write_raw(device.link, reg_address, data, bus)
 }

@@ -7,10 +7,8 @@ ghost use Rattle.commands.specs.Commands.{enable_adc, source_bits, set_temperatu
 ghost use Rattle.commands.specs.Commands.{source_in, temperature_source};
 
 use crate::register;
-use crate::register::ByteAnswer;
 use bq769x0::BQ769x0;
-use bus::Cursor;
-use bus::link::Raw;
+use bus::Bus;
 use refusals::Error;
 
 #[derive(Clone, Copy)]
@@ -19,44 +17,27 @@ pub enum TemperatureSource {
     ExternalThermistor,
 }
 
-#[derive(Clone, Copy)]
-pub enum SourceAnswer {
-    Source(TemperatureSource),
-    Refused(Error),
-}
-
-#[derive(Clone, Copy)]
-pub struct SourceRead {
-    pub answer: SourceAnswer,
-    pub at: Cursor,
-}
-
-pub fn enable_adc(device: BQ769x0, enable: bool, tape: &[u8], log: &mut [u8], at: Cursor) -> Raw
-    ensures { does (enable_adc device enable) tape log at (as_raw result.answer) result.at }
+pub fn enable_adc(device: &BQ769x0, enable: bool, bus: &mut Bus) -> Result<(), Error>
+    ensures { does (enable_adc device.now enable) bus (as_raw result) }
 {
     if !device.is_sound() {
-        return register::refuse(Error::BadDevice, at);
+        return Err(Error::BadDevice);
     }
     let set = bits::placed(0b0001_0000, enable);
-    let link = device.link;
-    register::change_bits(link, 0x04, 0b0001_0000, set, tape, log, at)
+    register::change_bits(device.link, 0x04, 0b0001_0000, set, bus)
 }
 
 pub fn set_temperature_source(
-    device: BQ769x0,
+    device: &BQ769x0,
     source: TemperatureSource,
-    tape: &[u8],
-    log: &mut [u8],
-    at: Cursor,
-) -> Raw
-    ensures { does (set_temperature_source device source) tape log at (as_raw result.answer) result.at }
+    bus: &mut Bus,
+) -> Result<(), Error>
+    ensures { does (set_temperature_source device.now source) bus (as_raw result) }
 {
     if !device.is_sound() {
-        return register::refuse(Error::BadDevice, at);
+        return Err(Error::BadDevice);
     }
-    let set = source_bits(source);
-    let link = device.link;
-    register::change_bits(link, 0x04, 0b0000_1000, set, tape, log, at)
+    register::change_bits(device.link, 0x04, 0b0000_1000, source_bits(source), bus)
 }
 
 fn source_bits(source: TemperatureSource) -> u8
@@ -68,32 +49,14 @@ fn source_bits(source: TemperatureSource) -> u8
     }
 }
 
-pub fn temperature_source(device: BQ769x0, tape: &[u8], log: &mut [u8], at: Cursor) -> SourceRead
-    ensures { does (temperature_source device) tape log at (as_source result.answer) result.at }
+pub fn temperature_source(device: &BQ769x0, bus: &mut Bus) -> Result<TemperatureSource, Error>
+    ensures { does (temperature_source device.now) bus (as_source result) }
 {
     if !device.is_sound() {
-        return refuse_source(Error::BadDevice, at);
+        return Err(Error::BadDevice);
     }
-    let link = device.link;
-    let read = register::read_register(link, 0x04, tape, log, at);
-    let answer = read.answer;
-    let next = read.at;
-    match answer {
-        ByteAnswer::Byte(byte) => SourceRead {
-            answer: SourceAnswer::Source(source_in(byte)),
-            at: next,
-        },
-        ByteAnswer::Refused(e) => refuse_source(e, next),
-    }
-}
-
-fn refuse_source(e: Error, at: Cursor) -> SourceRead
-    ensures { (result.answer ≡ SourceAnswer.Refused e) × (result.at ≡ at) }
-{
-    SourceRead {
-        answer: SourceAnswer::Refused(e),
-        at,
-    }
+    let byte = register::read_register(device.link, 0x04, bus)?;
+    Ok(source_in(byte))
 }
 
 fn source_in(byte: u8) -> TemperatureSource

@@ -6,8 +6,7 @@ ghost use Rattle.commands.specs.Commands.{mode_bits, coulomb_counter_mode};
 
 use crate::register;
 use bq769x0::BQ769x0;
-use bus::Cursor;
-use bus::link::Raw;
+use bus::Bus;
 use refusals::Error;
 
 #[derive(Clone, Copy)]
@@ -18,20 +17,22 @@ pub enum CoulombCounterMode {
 }
 
 pub fn coulomb_counter_mode(
-    device: BQ769x0,
+    device: &BQ769x0,
     mode: CoulombCounterMode,
-    tape: &[u8],
-    log: &mut [u8],
-    at: Cursor,
-) -> Raw
-    ensures { does (coulomb_counter_mode device mode) tape log at (as_raw result.answer) result.at }
+    bus: &mut Bus,
+) -> Result<(), Error>
+    ensures { does (coulomb_counter_mode device.now mode) bus (as_raw result) }
 {
     if !device.is_sound() {
-        return register::refuse(Error::BadDevice, at);
+        return Err(Error::BadDevice);
     }
-    let set = mode_bits(mode);
-    let link = device.link;
-    register::change_bits(link, BQ769x0::SYS_CTRL2, 0b0110_0000, set, tape, log, at)
+    register::change_bits(
+        device.link,
+        BQ769x0::SYS_CTRL2,
+        0b0110_0000,
+        mode_bits(mode),
+        bus,
+    )
 }
 
 fn mode_bits(mode: CoulombCounterMode) -> u8

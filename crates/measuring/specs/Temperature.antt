@@ -1,8 +1,9 @@
 -- The temperature as a program beside the crate's `temperature`, over a stage that gives the reading and then its
 -- source.
 -- Assumes nothing.
-use Rattle.std.specs.Prelude.{ℕ, ◌*◌, pos}
-use Rattle.refusals.specs.Refusal.{Answer, value, refused, as_refusal, nine}
+use Rattle.std.specs.Prelude.{ℕ, ◌*◌, pos, Result}
+use Rattle.refusals.specs.Refusal.{Answer, value, refused, as_answer, nine}
+use Rattle.refusals.specs.declared.Error.{Error}
 use Rattle.bus.specs.Programs.{Prog, ret, ◌or_leave◌, ◌>>=◌}
 use Rattle.bq769x0.specs.Registers.{soundly}
 use Rattle.bq769x0.specs.declared.BQ769x0.{BQ769x0}
@@ -12,8 +13,6 @@ use Rattle.commands.specs.declared.control.TemperatureSource.TheVariants.{Intern
 use Rattle.measuring.specs.Word.{read_word}
 use Rattle.measuring.specs.declared.degrees.Temperature.{Temperature}
 use Rattle.measuring.specs.declared.degrees.Temperature.TheVariants as T
-use Rattle.measuring.specs.declared.temperature.TemperatureAnswer.{TemperatureAnswer}
-use Rattle.measuring.specs.declared.temperature.TemperatureAnswer.TheVariants as A
 
 pub record Sensed : Type 0 where
   pub reading : ℕ
@@ -35,9 +34,8 @@ abbrev pub degrees : ℕ → TemperatureSource → Temperature
 degrees reading InternalDie = T.InternalDie (record { 0 = pos (reading * 382) })
 degrees reading ExternalThermistor = T.ExternalThermistor (record { 0 = pos (reading * 382) })
 
-abbrev pub as_temperature : TemperatureAnswer → Answer Temperature
-as_temperature (A.Degrees temperature) = value temperature
-as_temperature (A.Refused e) = refused (as_refusal e)
+abbrev pub as_temperature : Result Temperature Error → Answer Temperature
+as_temperature = as_answer (λ temperature. temperature)
 
 unfoldable pub temperature : BQ769x0 → Prog (Answer Temperature)
 temperature d = soundly d (refused nine) (do

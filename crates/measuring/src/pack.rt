@@ -4,88 +4,32 @@ ghost use Rattle.bus.specs.Lent.{does};
 ghost use Rattle.measuring.specs.Pack.{current, as_voltage, voltage};
 
 use crate::word;
-use crate::word::WordAnswer;
 use adc::counter;
-use adc::counter::CurrentAnswer;
 use bq769x0::BQ769x0;
-use bus::Cursor;
+use bus::Bus;
 use refusals::Error;
-use units::MilliVolts;
+use units::{MilliAmperes, MilliVolts};
 
-#[derive(Clone, Copy)]
-pub struct CurrentRead {
-    pub answer: CurrentAnswer,
-    pub at: Cursor,
-}
-
-#[derive(Clone, Copy)]
-pub enum VoltageAnswer {
-    Volts(MilliVolts),
-    Refused(Error),
-}
-
-#[derive(Clone, Copy)]
-pub struct VoltageRead {
-    pub answer: VoltageAnswer,
-    pub at: Cursor,
-}
-
-pub fn current(device: BQ769x0, tape: &[u8], log: &mut [u8], at: Cursor) -> CurrentRead
-    ensures { does (current device) tape log at (as_current result.answer) result.at }
+pub fn current(device: &BQ769x0, bus: &mut Bus) -> Result<MilliAmperes, Error>
+    ensures { does (current device.now) bus (as_current result) }
 {
     if !device.is_sound() {
-        return CurrentRead {
-            answer: CurrentAnswer::Refused(Error::BadDevice),
-            at,
-        };
+        return Err(Error::BadDevice);
     }
     if !device.init_complete {
-        return CurrentRead {
-            answer: CurrentAnswer::Refused(Error::Uninitialized),
-            at,
-        };
+        return Err(Error::Uninitialized);
     }
-    let link = device.link;
-    let read = word::read_word(link, 0x32, tape, log, at);
-    let answer = read.answer;
-    let next = read.at;
-    let shunt = device.shunt;
-    match answer {
-        WordAnswer::Word(cc) => CurrentRead {
-            answer: counter::current(numbers::as_i16(cc), shunt),
-            at: next,
-        },
-        WordAnswer::Refused(e) => CurrentRead {
-            answer: CurrentAnswer::Refused(e),
-            at: next,
-        },
-    }
+    let cc = word::read_word(device.link, 0x32, bus)?;
+    counter::current(numbers::as_i16(cc), device.shunt)
 }
 
-pub fn voltage(device: BQ769x0, tape: &[u8], log: &mut [u8], at: Cursor) -> VoltageRead
-    ensures { does (voltage device) tape log at (as_voltage result.answer) result.at }
+pub fn voltage(device: &BQ769x0, bus: &mut Bus) -> Result<MilliVolts, Error>
+    ensures { does (voltage device.now) bus (as_voltage result) }
 {
     if !device.is_sound() {
-        return VoltageRead {
-            answer: VoltageAnswer::Refused(Error::BadDevice),
-            at,
-        };
+        return Err(Error::BadDevice);
     }
-    let link = device.link;
-    let read = word::read_word(link, 0x2a, tape, log, at);
-    let answer = read.answer;
-    let next = read.at;
-    match answer {
-        WordAnswer::Word(vv) => {
-            let adc = device.adc;
-            VoltageRead {
-                answer: VoltageAnswer::Volts(adc.pack_voltage(device.cell_count, vv)),
-                at: next,
-            }
-        }
-        WordAnswer::Refused(e) => VoltageRead {
-            answer: VoltageAnswer::Refused(e),
-            at: next,
-        },
-    }
+    let vv = word::read_word(device.link, 0x2a, bus)?;
+    let adc = device.adc;
+    Ok(adc.pack_voltage(device.cell_count, vv))
 }
