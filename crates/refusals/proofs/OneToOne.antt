@@ -1,24 +1,51 @@
 -- A refusal's number and figures tell which case it is: `as_refusal` has a left inverse.
 -- Assumes nothing.
 use mathlib.Core.Path.{◌≡◌, refl, ap}
-use Rattle.std.specs.Prelude.{Result, Ok, Err}
+use Rattle.std.specs.Prelude.{ℕ, ◌-◌, List, [], ◌∷◌, get_or, ℤ, Result, Ok, Err}
 use lib.IntN.{nat_abs}
 use Rattle.laws.proofs.Inverse.{one_to_one}
 use Rattle.laws.proofs.Variants.{by_variants}
 use Rattle.refusals.specs.Refusal.{Refusal, Answer, value, refused, as_refusal, as_answer, in_numbers}
-use Rattle.refusals.specs.Inside.{case_of}
 use Rattle.refusals.specs.declared.Error.{Error}
-use Rattle.refusals.specs.declared.Row.{Row}
+use Rattle.refusals.specs.declared.Error.TheVariants as E
+use Rattle.units.specs.declared.MilliVolts.{MilliVolts}
 use Rattle.refusals.specs.contracts.Error as declared
 
--- the case's line in the table: 5 has a register, and another's figures are voltages
-abbrev row_for : Refusal → Row
-row_for r =
-    let numbers = in_numbers r in
-    record { 0 = numbers.0; 1 = numbers.1; 2 = nat_abs numbers.2; 3 = numbers.2; 4 = numbers.3 }
+-- the cases in the order of their numbers, with their figures: a register, or two voltages
+abbrev cases : ℕ → ℤ → ℤ → List Error
+cases reg first second =
+    let low : MilliVolts = record { 0 = first } in
+    let high : MilliVolts = record { 0 = second } in
+    E.CRCMismatch ∷
+    E.I2CError ∷
+    E.BufTooLarge ∷
+    E.Uninitialized ∷
+    E.VerifyError reg ∷
+    E.OCDSCDRangeMismatch ∷
+    E.UVThresholdUnobtainable low high ∷
+    E.OVThresholdUnobtainable low high ∷
+    E.BadDevice ∷
+    E.BadCellCount ∷
+    E.BadAddress ∷
+    E.BadShunt ∷
+    E.CurrentTooLarge ∷
+    E.RegisterRunsOut ∷
+    E.BadTape ∷
+    E.TapeEnded ∷
+    E.LogFull ∷
+    E.UnknownFlags ∷
+    E.NoRoom ∷
+    E.UnknownRange ∷
+    E.NoSuchInput ∷
+    E.NotOnDevice ∷
+    E.Neighbours ∷
+    E.TooManyCells ∷
+    []
 
 pub case_back : Refusal → Error
-case_back r = case_of (row_for r)
+case_back r =
+    let numbers = in_numbers r in
+    get_or (cases (nat_abs numbers.2) numbers.2 numbers.3) (numbers.0 - 1) E.CRCMismatch
 
 pub undone : (e : Error) → case_back (as_refusal e) ≡ e
 unfolding case_back

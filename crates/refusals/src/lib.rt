@@ -3,7 +3,6 @@
 
 ghost use Rattle.std.specs.Prelude.{◌≡◌};
 ghost use Rattle.refusals.specs.Refusal.{as_refusal, in_numbers};
-ghost use Rattle.refusals.specs.Inside.{case_of, row_numbers};
 
 use std::fmt;
 use units::MilliVolts;
@@ -79,56 +78,47 @@ impl std::error::Error for Error {}
 #[derive(Clone, Copy)]
 pub struct InNumbers(pub u8, pub u8, pub i32, pub i32);
 
-// A line of the table: the number, how many figures it names, and these, the register of 5 or the two voltages of 7 and 8.
-#[derive(Clone, Copy)]
-struct Row(u8, u8, u8, i32, i32);
-
 impl Error {
-    pub fn in_numbers(self) -> InNumbers
-        ensures { result ≡ in_numbers (as_refusal self) }
-    {
-        let row = self.row();
-        if row.0 == 5 {
-            return InNumbers(row.0, row.1, row.2 as i32, row.4);
-        }
-        InNumbers(row.0, row.1, row.3, row.4)
-    }
-
     pub fn number(self) -> u8
         ensures { result ≡ (as_refusal self).number }
     {
-        self.row().0
+        match self {
+            Error::CRCMismatch => 1,
+            Error::I2CError => 2,
+            Error::BufTooLarge => 3,
+            Error::Uninitialized => 4,
+            Error::VerifyError(_) => 5,
+            Error::OCDSCDRangeMismatch => 6,
+            Error::UVThresholdUnobtainable(_, _) => 7,
+            Error::OVThresholdUnobtainable(_, _) => 8,
+            Error::BadDevice => 9,
+            Error::BadCellCount => 10,
+            Error::BadAddress => 11,
+            Error::BadShunt => 12,
+            Error::CurrentTooLarge => 13,
+            Error::RegisterRunsOut => 14,
+            Error::BadTape => 15,
+            Error::TapeEnded => 16,
+            Error::LogFull => 17,
+            Error::UnknownFlags => 18,
+            Error::NoRoom => 19,
+            Error::UnknownRange => 20,
+            Error::NoSuchInput => 21,
+            Error::NotOnDevice => 22,
+            Error::Neighbours => 23,
+            Error::TooManyCells => 24,
+        }
     }
 
-    // Stated from the number's side, which the prover closes at each arm by itself; `as_refusal` says the same from the case's side.
-    fn row(self) -> Row
-        ensures { (self ≡ case_of result) × (in_numbers (as_refusal (case_of result)) ≡ row_numbers result) }
+    pub fn in_numbers(self) -> InNumbers
+        ensures { result ≡ in_numbers (as_refusal self) }
     {
+        let number = self.number();
         match self {
-            Error::CRCMismatch => Row(1, 0, 0, 0, 0),
-            Error::I2CError => Row(2, 0, 0, 0, 0),
-            Error::BufTooLarge => Row(3, 0, 0, 0, 0),
-            Error::Uninitialized => Row(4, 0, 0, 0, 0),
-            Error::VerifyError(reg) => Row(5, 1, reg, 0, 0),
-            Error::OCDSCDRangeMismatch => Row(6, 0, 0, 0, 0),
-            Error::UVThresholdUnobtainable(low, high) => Row(7, 2, 0, low.0, high.0),
-            Error::OVThresholdUnobtainable(low, high) => Row(8, 2, 0, low.0, high.0),
-            Error::BadDevice => Row(9, 0, 0, 0, 0),
-            Error::BadCellCount => Row(10, 0, 0, 0, 0),
-            Error::BadAddress => Row(11, 0, 0, 0, 0),
-            Error::BadShunt => Row(12, 0, 0, 0, 0),
-            Error::CurrentTooLarge => Row(13, 0, 0, 0, 0),
-            Error::RegisterRunsOut => Row(14, 0, 0, 0, 0),
-            Error::BadTape => Row(15, 0, 0, 0, 0),
-            Error::TapeEnded => Row(16, 0, 0, 0, 0),
-            Error::LogFull => Row(17, 0, 0, 0, 0),
-            Error::UnknownFlags => Row(18, 0, 0, 0, 0),
-            Error::NoRoom => Row(19, 0, 0, 0, 0),
-            Error::UnknownRange => Row(20, 0, 0, 0, 0),
-            Error::NoSuchInput => Row(21, 0, 0, 0, 0),
-            Error::NotOnDevice => Row(22, 0, 0, 0, 0),
-            Error::Neighbours => Row(23, 0, 0, 0, 0),
-            Error::TooManyCells => Row(24, 0, 0, 0, 0),
+            Error::VerifyError(reg) => InNumbers(number, 1, reg as i32, 0),
+            Error::UVThresholdUnobtainable(low, high) | Error::OVThresholdUnobtainable(low, high) =>
+                InNumbers(number, 2, low.0, high.0),
+            _ => InNumbers(number, 0, 0, 0),
         }
     }
 }
