@@ -39,11 +39,9 @@ fn left(u: u32) -> u8
 pub fn check_byte(data: &[u8]) -> u8
     ensures { result ≡ check_byte «data».now }
 {
-    let mut crc: u8 = 0;
-    let mut i = 0;
-    while i < data.len() {
-        crc = left(more(crc as u32, data[i]));
-        i += 1;
+    let mut crc = 0;
+    for byte in data {
+        crc = left(more(crc as u32, *byte));
     }
     crc
 }

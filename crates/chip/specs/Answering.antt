@@ -1,6 +1,7 @@
 -- What the chip answers to the field of a transfer in a log: the next field of a tape.
 -- Assumes nothing.
-use Rattle.std.specs.Prelude.{List, ℕ, ◌+◌, length, eqb, leb}
+use Rattle.std.specs.Prelude.{List, ℕ, ◌+◌, length, eqb, leb, Some, None}
+use Rattle.std.specs.Prelude as code
 use Rattle.std.proofs.Math.Option.{Option, none, some, bind}
 use Rattle.frames.specs.Put.{put}
 use Rattle.laws.specs.Choice.{when◌then◌else◌}
@@ -10,17 +11,20 @@ use Rattle.bus.specs.Transfers.{Transfer, Outcome, tape_field}
 use Rattle.chip.specs.Devices.{Reached}
 use Rattle.chip.specs.Chip.{respond_cut}
 use Rattle.chip.specs.declared.Chip.{Chip}
-use Rattle.chip.specs.declared.answer.Answered.{Answered}
-use Rattle.chip.specs.declared.answer.Cut.{Cut}
-use Rattle.chip.specs.declared.answer.Cut.TheVariants as C
 
-abbrev pub as_cut : Cut → Option ℕ
-as_cut C.Whole = none
-as_cut (C.After n) = some n
+-- how a transfer goes: whole, or cut after so many bytes behind the address byte
+abbrev pub as_cut : code.Option ℕ → Option ℕ
+as_cut None = none
+as_cut (Some n) = some n
 
 -- the transfer whose log field these bytes are, and nothing more
 unfoldable pub transfer_of : List ℕ → Option Transfer
 transfer_of bytes = bind (unfield bytes) λ f. when eqb (length f.rest) 0 then unlog f else none
+
+-- the chip after a transfer, and how far the tape is filled
+pub record Answered : Type 0 where
+  pub chip : Chip
+  pub end : ℕ
 
 abbrev pub answered_with : Chip → ℕ → Answered
 answered_with c end = record { chip = c; end = end }

@@ -15,29 +15,14 @@ fn put_checked(address: u8, reg: u8, data: &[u8], out: &mut [u8])
     ensures { out.new
         ≡ put out.old 1 (checked (write_byte address ∷ reg ∷ []) «data».now) }
 {
-    if data.len() == 0 {
+    let Some((first, rest)) = data.split_first() else {
         return;
-    }
-    out[1] = data[0];
-    out[2] = check_byte3(address << 1, reg, data[0]);
-    let mut i = 1;
-    while i < data.len() {
-        let b = data[i];
-        out[2 * i + 1] = b;
-        out[2 * i + 2] = check_byte1(b);
-        i += 1;
-    }
-}
-
-// The data after the register, alone.
-fn put_alone(data: &[u8], out: &mut [u8])
-    requires { length «data».now < length out.old }
-    ensures { out.new ≡ put out.old 1 «data».now }
-{
-    let mut i = 0;
-    while i < data.len() {
-        out[i + 1] = data[i];
-        i += 1;
+    };
+    out[1] = *first;
+    out[2] = check_byte3(address << 1, reg, *first);
+    for (i, byte) in rest.iter().enumerate() {
+        out[2 * i + 3] = *byte;
+        out[2 * i + 4] = check_byte1(*byte);
     }
 }
 
@@ -55,7 +40,7 @@ pub fn write_frame(check: bool, address: u8, reg: u8, data: &[u8], out: &mut [u8
         put_checked(address, reg, data, out);
         data.len() * 2 + 1
     } else {
-        put_alone(data, out);
+        out[1..data.len() + 1].copy_from_slice(data);
         data.len() + 1
     }
 }
@@ -69,17 +54,15 @@ pub fn taken(address: u8, frame: &[u8; 66], eights: usize, data: &mut [u8; 32]) 
     // a slice: of an array behind a reference the proof is not told the length
     let bytes: &[u8] = frame;
     if bytes[1] != check_byte2(address << 1 | 1, bytes[0]) {
-        *data = [0u8; 32];
+        *data = [0; 32];
         return false;
     }
-    let mut k = 0;
-    while (k < eights) & (k < 4) {
+    for k in 0..eights.min(4) {
         if !right_eight(bytes, k) {
-            *data = [0u8; 32];
+            *data = [0; 32];
             return false;
         }
         carry_eight(bytes, k, data);
-        k += 1;
     }
     true
 }
@@ -90,11 +73,9 @@ fn right_eight(frame: &[u8], k: usize) -> bool
     requires { 16 * k + 18 ≤ length frame.now }
     ensures { result ≡ right [] (take 16 (drop (16 * k + 2) frame.now)) }
 {
-    let mut wrong: u8 = 0;
-    let mut i = 0;
-    while i < 8 {
-        wrong = wrong | (frame[16 * k + 2 * i + 3] ^ check_byte1(frame[16 * k + 2 * i + 2]));
-        i += 1;
+    let mut wrong = 0;
+    for i in 0..8 {
+        wrong |= frame[16 * k + 2 * i + 3] ^ check_byte1(frame[16 * k + 2 * i + 2]);
     }
     wrong == 0
 }
@@ -105,9 +86,7 @@ fn carry_eight(frame: &[u8], k: usize, data: &mut [u8])
     ensures { «data».new
         ≡ put «data».old (8 * k) (data_of (take 16 (drop (16 * k) frame.now))) }
 {
-    let mut i = 0;
-    while i < 8 {
+    for i in 0..8 {
         data[8 * k + i] = frame[16 * k + 2 * i];
-        i += 1;
     }
 }
