@@ -5,53 +5,42 @@ use mathlib.Core.Path.{◌≡◌, sym, ap, ◌∙◌}
 use Prim.Native.Nat.{ℕ}
 use mathlib.Core.List.{List}
 use lib.IntN.{ℤ}
+use Rattle.std.specs.Prelude.{Result}
+use Rattle.refusals.specs.declared.Error.{Error}
 use Rattle.bus.specs.Transfers.{Bus}
-use Rattle.bus.specs.Programs.{Prog, Ran, ran, on_tape}
-use Rattle.bus.specs.Raw.{as_raw}
+use Rattle.bus.specs.Programs.{Prog, Ran, ends, on_tape}
+use Rattle.bus.specs.Raw.{Done, as_raw}
 use Rattle.bus.proofs.Agree.{raw_agree}
+use Rattle.bq769x0.specs.declared.BQ769x0.{BQ769x0}
 use Rattle.procedure.specs.Cells.{Filled, filled}
 use Rattle.procedure.specs.Wired.{Shown, shown}
-use Rattle.cells.specs.declared.Cells.{Cells}
-
--- what both calls for the cells return
-left_agree : (r r' : Cells)
-    → as_raw r.answer ≡ as_raw r'.answer
-    → r.device ≡ r'.device
-    → r.at ≡ r'.at
-    → r ≡ r'
-left_agree r r' told devices places =
-    let answers = raw_agree r.answer r'.answer told in
-    λ i. record { answer = answers i; device = devices i; at = places i }
 
 -- `cell_voltages`
-pub cells_agree : (p : Prog Filled) (b : Bus) (r r' : Cells) (list list' : List ℤ) (log log' : List ℕ)
-    → ran (filled (as_raw r.answer) r.device list) b.tape log r.at ≡ on_tape p b
-    → ran (filled (as_raw r'.answer) r'.device list') b.tape log' r'.at ≡ on_tape p b
-    → (r ≡ r') × (list ≡ list') × (log ≡ log')
-cells_agree p b r r' list list' log log' e e' =
+pub cells_agree : (p : Prog Filled) (b : Bus) (r r' : Result Done Error) (d d' : BQ769x0) (list list' : List ℤ) (left left' : Bus)
+    → ends (filled (as_raw r) d list) left ≡ on_tape p b
+    → ends (filled (as_raw r') d' list') left' ≡ on_tape p b
+    → (r ≡ r') × (d ≡ d') × (list ≡ list') × (left ≡ left')
+cells_agree p b r r' d d' list list' left left' e e' =
     let same = e ∙ sym e' in (
-      left_agree r r'
-          (ap (λ (x : Ran Filled). x.answer.answer) same)
-          (ap (λ (x : Ran Filled). x.answer.device) same)
-          (ap (λ (x : Ran Filled). x.bus.at) same),
+      raw_agree r r' (ap (λ (x : Ran Filled). x.answer.answer) same),
+      ap (λ (x : Ran Filled). x.answer.device) same,
       ap (λ (x : Ran Filled). x.answer.list) same,
-      ap (λ (x : Ran Filled). x.bus.log) same,
+      ap (λ (x : Ran Filled). x.bus) same,
     )
 
 -- `wired`
-pub wired_agree : (p : Prog Shown) (b : Bus) (r r' : Cells) (inputs inputs' : List ℕ) (list list' : List ℤ) (log log' : List ℕ)
-    → ran (shown (as_raw r.answer) r.device inputs list) b.tape log r.at ≡ on_tape p b
-    → ran (shown (as_raw r'.answer) r'.device inputs' list') b.tape log' r'.at ≡ on_tape p b
-    → (r ≡ r') × (inputs ≡ inputs') × (list ≡ list') × (log ≡ log')
-wired_agree p b r r' inputs inputs' list list' log log' e e' =
+pub wired_agree : (p : Prog Shown) (b : Bus) (r r' : Result Done Error) (d d' : BQ769x0) (inputs inputs' : List ℕ) (list list' : List ℤ)
+    (left left' : Bus)
+    → ends (shown (as_raw r) d inputs list) left ≡ on_tape p b
+    → ends (shown (as_raw r') d' inputs' list') left' ≡ on_tape p b
+    → (r ≡ r') × (d ≡ d') × (inputs ≡ inputs') × (list ≡ list') × (left ≡ left')
+wired_agree p b r r' d d' inputs inputs' list list' left left' e e' =
     let same = e ∙ sym e' in (
-      left_agree r r'
-          (ap (λ (x : Ran Shown). x.answer.answer) same)
-          (ap (λ (x : Ran Shown). x.answer.device) same)
-          (ap (λ (x : Ran Shown). x.bus.at) same),
+      raw_agree r r' (ap (λ (x : Ran Shown). x.answer.answer) same),
+      ap (λ (x : Ran Shown). x.answer.device) same,
       ap (λ (x : Ran Shown). x.answer.inputs) same,
       ap (λ (x : Ran Shown). x.answer.list) same,
-      ap (λ (x : Ran Shown). x.bus.log) same,
+      ap (λ (x : Ran Shown). x.bus) same,
     )
 
 -- `cells_of`: the part that it hands back is determined in its numbers, and so in its length, and in its place

@@ -1,42 +1,89 @@
-// A reading of all inputs, over the cells that the record holds.
-ghost use Rattle.std.specs.Prelude.{◌≡◌, map, ℕ, ◌≤◌, ◌<◌, length, get_or, take};
+// A reading of all inputs, over the cells that the record holds, for a caller with room for so many.
+ghost use Rattle.std.specs.Prelude.{◌≡◌, map, ℕ, ◌≤◌, ◌<◌, true, length, get_or, take};
 ghost use Rattle.laws.specs.Over.{◌over◌};
+ghost use Rattle.bus.specs.Lent.{does};
+ghost use Rattle.bus.specs.Raw.{as_raw};
+ghost use Rattle.bq769x0.specs.Record.{leaves, is_sound};
+ghost use Rattle.bq769x0.specs.Figures.{volts};
 ghost use Rattle.procedure.specs.Inputs.{as_cells};
 ghost use Rattle.procedure.specs.Taking.{of_input};
+ghost use Rattle.cells.specs.Inside.{tests, read_all, read_ready};
 
+use crate::{figures, inputs};
+use bq769x0::BQ769x0;
+use bus::Bus;
+use refusals::Error;
 use units::MilliVolts;
+use wiring::tables;
 
-// The first n fitted inputs' millivolts, over the cells held.
-pub(crate) fn by_wiring(
-    n: usize,
-    fitted: [u8; 15],
-    inputs: &[i32; 16],
-    cells: [MilliVolts; 15],
-) -> [MilliVolts; 15]
-    requires n_bound { n ≤ 15 }
-    requires by_index { (k : ℕ) → k < n → (1 ≤ get_or fitted k 0) × (get_or fitted k 0 ≤ 15) }
-    ensures { result ≡ as_cells (map (of_input inputs.now) (take n fitted)) over cells }
+// Where it is refused nothing of the record is touched.
+pub(crate) fn read_all(device: &mut BQ769x0, room: usize, bus: &mut Bus) -> Result<(), Error>
+    ensures { does (read_all device.old room) bus (leaves (as_raw result) device.new) }
 {
-    let mut out = cells;
-    let mut i = 0;
-    while i < n {
-        let input = fitted[i];
-        out[i] = MilliVolts(inputs[input as usize - 1]);
-        i += 1;
-    }
-    out
+    test(device, room)?;
+    read_ready(device, bus)
 }
 
-// The first n inputs, over the cells held.
-pub(crate) fn stored(n: usize, inputs: &[i32; 16], cells: [MilliVolts; 15]) -> [MilliVolts; 15]
-    requires { (n ≤ 15) × (n ≤ length inputs.now) }
-    ensures { result ≡ as_cells (take n inputs.now) over cells }
+// 9, 4, 19.
+fn test(device: &BQ769x0, room: usize) -> Result<(), Error>
+    ensures { as_raw result ≡ tests device.now room }
 {
-    let mut out = cells;
-    let mut i = 0;
-    while i < n {
-        out[i] = MilliVolts(inputs[i]);
-        i += 1;
+    if !device.is_sound() {
+        return Err(Error::BadDevice);
     }
-    out
+    if !device.init_complete {
+        return Err(Error::Uninitialized);
+    }
+    if room < device.cell_count as usize {
+        return Err(Error::NoRoom);
+    }
+    Ok(())
+}
+
+// On a record that passes the tests.
+fn read_ready(device: &mut BQ769x0, bus: &mut Bus) -> Result<(), Error>
+    requires { is_sound device.old ≡ true }
+    ensures { does (read_ready device.old) bus (leaves (as_raw result) device.new) }
+{
+    let x = device.link.x;
+    let fitted = tables::fitted(x, device.cell_count);
+    let mut inputs = inputs::read_inputs(device.link, device.adc, bus)?;
+    let mut readings = device.readings;
+    by_wiring(fitted, &inputs, &mut readings.wired);
+    readings.spread = figures::spread_of(&readings.wired[..fitted.len()]);
+    moves::in_turn(x, device.cell_count, &mut inputs);
+    store(&inputs[..x as usize], &mut readings.cells);
+    device.store_readings(readings);
+    Ok(())
+}
+
+// The fitted inputs' millivolts, over the cells held.
+fn by_wiring(fitted: &[u8], inputs: &[i32; 16], cells: &mut [MilliVolts; 15])
+    requires n_bound { length fitted.now ≤ 15 }
+    requires by_index { (k : ℕ) → k < length fitted.now → (1 ≤ get_or fitted.now k 0) × (get_or fitted.now k 0 ≤ 15) }
+    ensures { cells.new ≡ as_cells (map (of_input inputs.now) fitted.now) over cells.old }
+{
+    for (i, &input) in fitted.iter().enumerate() {
+        cells[i] = MilliVolts(inputs[input as usize - 1]);
+    }
+}
+
+// The inputs, over the cells held.
+fn store(inputs: &[i32], cells: &mut [MilliVolts; 15])
+    requires { length inputs.now ≤ 15 }
+    ensures { cells.new ≡ as_cells inputs.now over cells.old }
+{
+    for (i, &input) in inputs.iter().enumerate() {
+        cells[i] = MilliVolts(input);
+    }
+}
+
+// The cells, over the list's first.
+pub(crate) fn fill(cells: &[MilliVolts], list: &mut [i32])
+    requires { length cells.now ≤ length list.old }
+    ensures { list.new ≡ map volts cells.now over list.old }
+{
+    for (i, cell) in cells.iter().enumerate() {
+        list[i] = cell.0;
+    }
 }

@@ -5,22 +5,21 @@ use mathlib.Core.Path.{◌≡◌, refl, sym, ap, ◌∙◌}
 use mathlib.Core.Bool.{Bool, true, false, true≢false, false≢true, ◌||◌}
 use mathlib.Core.List.{List, []}
 use Prim.Native.Nat.{ℕ, suc, ◌+◌, ◌-◌, ◌≤◌, ◌<◌}
+use Rattle.std.specs.Prelude.{Result, Ok, Err}
 use native.Mathlib.Omega.{arith}
 use lib.Dec.{T, eqb, ltb}
 use lib.ListN.{length, get_or}
 use borrow.Author.Tests.{lt-ltb, ltb-true, ltb-false, ne_eqb}
 use Rattle.laws.proofs.Tests.{is_true, all_below, below, agree, agreeing}
 use Rattle.refusals.specs.Refusal.{Answer, value, refused, no}
+use Rattle.refusals.specs.declared.Error.{Error}
 use Rattle.refusals.specs.declared.Error.TheVariants as E
 use Rattle.sizes.specs.Sizes.{is_size, is_count}
 use Rattle.wiring.specs.Packs.{of_pack}
 use Rattle.wiring.specs.Tables.{fitted}
-use Rattle.wiring.specs.Questions.{inputs_for, cell_from, cell_on, as_cell_answer, Listed, as_inputs, listed}
-use Rattle.wiring.specs.declared.questions.CellAnswer.{CellAnswer}
-use Rattle.wiring.specs.declared.questions.CellAnswer.TheVariants as C
-use Rattle.wiring.specs.declared.questions.Fitted.{Fitted}
+use Rattle.wiring.specs.Questions.{inputs_for, cell_from, cell_on, as_cell_answer, as_inputs, fifteen, listed}
 use Rattle.wiring.specs.Blocks.{shorted, bare}
-use Rattle.wiring.proofs.Agree.{cell_agree}
+use Rattle.wiring.proofs.Agree.{cell_agree, inputs_agree}
 use Rattle.wiring.proofs.Found.{finds, found, either}
 use Rattle.wiring.proofs.Packs.{of_pack_lem}
 use Rattle.wiring.proofs.Rows.{as_many, row_rises, row_within, row_order, row_at}
@@ -136,34 +135,38 @@ module _ (x n : ℕ) (pack : T (is_count x n)) where
   }
 
 -- ---- so do the code's answers, by their promises
-module _ (x n : ℕ) (pack : T (is_count x n)) (r : Fitted) (listing : as_inputs r ≡ listed (inputs_for x n)) where
-  listed_at : (k : ℕ) → k < n → get_or r.inputs k 0 ≡ input_at x n k
-  listed_at k h =
-      let shown = listing ∙ ap listed (every_pack_is x n pack).listed in
-      ap (λ (y : Listed). get_or y.inputs k 0) shown ∙ row_at x n pack k h
+module _ (x n : ℕ) (pack : T (is_count x n)) (r : Result (List ℕ) Error) (listing : as_inputs r ≡ listed (inputs_for x n)) where
+  pub listed_all : r ≡ Ok (fifteen (fitted x n))
+  listed_all = inputs_agree r (Ok (fifteen (fitted x n))) (listing ∙ ap listed (every_pack_is x n pack).listed)
 
-  pub listed_rises : (j k : ℕ) → j < k → k < n → get_or r.inputs j 0 < get_or r.inputs k 0
-  listed_rises j k less h = rw (listed_at j (omega arith), listed_at k h) ((every_pack_is x n pack).rises j k less h)
+  module _ (inputs : List ℕ) (given : r ≡ Ok inputs) where
+    listed_at : (k : ℕ) → k < n → get_or inputs k 0 ≡ input_at x n k
+    listed_at k h =
+        let shown : inputs ≡ fifteen (fitted x n) = cc (sym given ∙ listed_all) in
+        ap (λ (l : List ℕ). get_or l k 0) shown ∙ row_at x n pack k h
 
-  pub listed_once : (j k : ℕ) → j < n → k < n → get_or r.inputs j 0 ≡ get_or r.inputs k 0 → j ≡ k
-  listed_once j k hj hk e = (every_pack_is x n pack).once j k hj hk (sym (listed_at j hj) ∙ e ∙ listed_at k hk)
+    pub listed_rises : (j k : ℕ) → j < k → k < n → get_or inputs j 0 < get_or inputs k 0
+    listed_rises j k less h = rw (listed_at j (omega arith), listed_at k h) ((every_pack_is x n pack).rises j k less h)
 
-  pub listed_unshorted : (k : ℕ) → k < n → shorted x n (get_or r.inputs k 0) ≡ false
-  listed_unshorted k h = ap (shorted x n) (listed_at k h) ∙ (every_pack_is x n pack).unshorted k h
+    pub listed_once : (j k : ℕ) → j < n → k < n → get_or inputs j 0 ≡ get_or inputs k 0 → j ≡ k
+    listed_once j k hj hk e = (every_pack_is x n pack).once j k hj hk (sym (listed_at j hj) ∙ e ∙ listed_at k hk)
 
-  pub cell_of_listed : (k : ℕ) → k < n → (a : CellAnswer) → as_cell_answer a ≡ cell_on x n (get_or r.inputs k 0) → a ≡ C.Cell (suc k)
-  cell_of_listed k h a e = cell_agree a (C.Cell (suc k)) (e ∙ ap (cell_on x n) (listed_at k h) ∙ (every_pack_is x n pack).there k h)
+    pub listed_unshorted : (k : ℕ) → k < n → shorted x n (get_or inputs k 0) ≡ false
+    listed_unshorted k h = ap (shorted x n) (listed_at k h) ∙ (every_pack_is x n pack).unshorted k h
 
-  pub listed_of_cell : (input cell : ℕ) → as_cell_answer (C.Cell cell) ≡ cell_on x n input → get_or r.inputs (cell - 1) 0 ≡ input
-  listed_of_cell input cell e =
-      let at = (every_pack_is x n pack).back input cell (sym e) in
-      listed_at (cell - 1) (omega arith) ∙ at.2
+    pub cell_of_listed : (k : ℕ) → k < n → (a : Result ℕ Error) → as_cell_answer a ≡ cell_on x n (get_or inputs k 0) → a ≡ Ok (suc k)
+    cell_of_listed k h a e = cell_agree a (Ok (suc k)) (e ∙ ap (cell_on x n) (listed_at k h) ∙ (every_pack_is x n pack).there k h)
 
-module _ (x n : ℕ) (pack : T (is_count x n)) (input : ℕ) (a : CellAnswer) (answered : as_cell_answer a ≡ cell_on x n input) where
-  pub bare_refused : bare x n input ≡ true → a ≡ C.Refused E.NoSuchInput
-  bare_refused e = cell_agree a (C.Refused E.NoSuchInput) (answered ∙ (every_pack_is x n pack).bare_21 input e)
+    pub listed_of_cell : (input cell : ℕ) → as_cell_answer (Ok cell) ≡ cell_on x n input → get_or inputs (cell - 1) 0 ≡ input
+    listed_of_cell input cell e =
+        let at = (every_pack_is x n pack).back input cell (sym e) in
+        listed_at (cell - 1) (omega arith) ∙ at.2
 
-  pub else_answered : bare x n input ≡ false → (cell : ℕ) × (a ≡ C.Cell cell)
+module _ (x n : ℕ) (pack : T (is_count x n)) (input : ℕ) (a : Result ℕ Error) (answered : as_cell_answer a ≡ cell_on x n input) where
+  pub bare_refused : bare x n input ≡ true → a ≡ Err E.NoSuchInput
+  bare_refused e = cell_agree a (Err E.NoSuchInput) (answered ∙ (every_pack_is x n pack).bare_21 input e)
+
+  pub else_answered : bare x n input ≡ false → (cell : ℕ) × (a ≡ Ok cell)
   else_answered e =
       let given = (every_pack_is x n pack).else_cell input e in
-      (given.0, cell_agree a (C.Cell given.0) (answered ∙ given.1))
+      (given.0, cell_agree a (Ok given.0) (answered ∙ given.1))

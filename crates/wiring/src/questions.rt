@@ -1,79 +1,47 @@
 // The two questions: which inputs carry a pack's cells, and which cell sits on an input. Cells and inputs count from 1.
-ghost use Rattle.std.specs.Prelude.{◌≡◌, ◌≤◌, take};
-ghost use Rattle.refusals.specs.Refusal.{refused, as_refusal};
-ghost use Rattle.wiring.specs.Questions.{inputs_for, as_inputs, listed, cell_from, cell_on, as_cell_answer};
+ghost use Rattle.std.specs.Prelude.{◌≡◌};
+ghost use Rattle.wiring.specs.Packs.{of_pack};
+ghost use Rattle.wiring.specs.Questions.{inputs_for, as_inputs, listed, cell_on, as_cell_answer, as_allowed};
+ghost use Rattle.refusals.specs.Refusal.{value};
 
 use crate::tables;
 use refusals::Error;
 
-#[derive(Clone, Copy)]
-pub enum InputsAnswer {
-    Listed,
-    Refused(Error),
-}
-
-// As many inputs as the pack has cells, and 0 behind them; all 0 where the pack is refused.
-#[derive(Clone, Copy)]
-pub struct Fitted {
-    pub answer: InputsAnswer,
-    pub inputs: [u8; 15],
-}
-
-#[derive(Clone, Copy)]
-pub enum CellAnswer {
-    Cell(u8),
-    Refused(Error),
-}
-
+// As many inputs as the pack has cells, and 0 behind them.
 #[tactic(auto, unfolding(crate::specs::Questions::inputs_for))]
-pub fn inputs(x: u8, cells: u8) -> Fitted
+pub fn inputs(x: u8, cells: u8) -> Result<[u8; 15], Error>
     ensures { as_inputs result ≡ listed (inputs_for x cells) }
 {
-    if !sizes::is_size(x) {
-        return refuse(Error::BadDevice);
-    }
-    if !sizes::is_count(x, cells) {
-        return refuse(Error::BadCellCount);
-    }
-    Fitted {
-        answer: InputsAnswer::Listed,
-        inputs: tables::fitted(x, cells),
-    }
-}
-
-fn refuse(e: Error) -> Fitted
-    ensures { as_inputs result ≡ listed (refused (as_refusal e)) }
-{
-    Fitted {
-        answer: InputsAnswer::Refused(e),
-        inputs: [0u8; 15],
-    }
+    allowed(x, cells)?;
+    let fitted = tables::fitted(x, cells);
+    let mut inputs = [0; 15];
+    inputs[..fitted.len()].copy_from_slice(fitted);
+    Ok(inputs)
 }
 
 #[tactic(auto, unfolding(crate::specs::Questions::cell_on))]
-pub fn cell_on(x: u8, cells: u8, input: u8) -> CellAnswer
+pub fn cell_on(x: u8, cells: u8, input: u8) -> Result<u8, Error>
     ensures { as_cell_answer result ≡ cell_on x cells input }
 {
-    if !sizes::is_size(x) {
-        return CellAnswer::Refused(Error::BadDevice);
+    allowed(x, cells)?;
+    match tables::fitted(x, cells)
+        .iter()
+        .position(|&fitted| fitted == input)
+    {
+        Some(place) => Ok(place as u8 + 1),
+        None => Err(Error::NoSuchInput),
     }
-    if !sizes::is_count(x, cells) {
-        return CellAnswer::Refused(Error::BadCellCount);
-    }
-    place(tables::fitted(x, cells), cells, input)
 }
 
-// Where the input stands among the first so many.
-fn place(inputs: [u8; 15], cells: u8, input: u8) -> CellAnswer
-    requires { cells ≤ 15 }
-    ensures { as_cell_answer result ≡ cell_from 1 (take cells inputs) input }
+// 9, 10.
+pub fn allowed(x: u8, cells: u8) -> Result<(), Error>
+    ensures { as_allowed result ≡ of_pack x cells (value tt) }
 {
-    let mut cell = 0;
-    while cell < cells {
-        if inputs[cell as usize] == input {
-            return CellAnswer::Cell(cell + 1);
-        }
-        cell += 1;
+    if !sizes::is_size(x) {
+        return Err(Error::BadDevice);
     }
-    CellAnswer::Refused(Error::NoSuchInput)
+    if !sizes::is_count(x, cells) {
+        return Err(Error::BadCellCount);
+    }
+    Ok(())
 }
