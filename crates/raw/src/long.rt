@@ -4,99 +4,58 @@ ghost use Rattle.bus.specs.Lent.{does};
 ghost use Rattle.bus.specs.Raw.{as_raw, gives, plain_read, ask_frame, checked_read, read_raw};
 
 use crate::transfer;
-use crate::transfer::Reply;
-use bus::Cursor;
-use bus::link::{Link, Raw, RawAnswer};
+use bus::Bus;
+use bus::link::Link;
 use refusals::Error;
 
 // Without checks: 14, then the transfer.
-fn plain_read(link: Link, reg: u8, data: &mut [u8], tape: &[u8], log: &mut [u8], at: Cursor) -> Raw
-    ensures { does (plain_read link reg «data».old) tape log at
-        (gives (as_raw result.answer) «data».new) result.at }
+fn plain_read(link: Link, reg: u8, data: &mut [u8], bus: &mut Bus) -> Result<(), Error>
+    ensures { does (plain_read link reg «data».old) bus (gives (as_raw result) «data».new) }
 {
-    let address = link.address;
     if 256 < reg as usize + data.len() {
-        return crate::refuse(Error::RegisterRunsOut, at);
+        return Err(Error::RegisterRunsOut);
     }
-    let moved = transfer::transfer_read(address, reg, data, tape, log, at);
-    let reply = moved.reply;
-    let next = moved.at;
-    Raw {
-        answer: crate::answer_of(reply),
-        at: next,
-    }
+    transfer::transfer_read(link.address, reg, data, bus)?.done()
 }
 
 // With checks: 3, empty, 14, then twice the bytes.
-fn checked_read(
-    link: Link,
-    reg: u8,
-    data: &mut [u8],
-    tape: &[u8],
-    log: &mut [u8],
-    at: Cursor,
-) -> Raw
+fn checked_read(link: Link, reg: u8, data: &mut [u8], bus: &mut Bus) -> Result<(), Error>
     requires { link.x ≤ 15 }
-    ensures { does (checked_read link reg «data».old) tape log at
-        (gives (as_raw result.answer) «data».new) result.at }
+    ensures { does (checked_read link reg «data».old) bus (gives (as_raw result) «data».new) }
 {
-    let address = link.address;
     let n = data.len();
     if 2 * (link.x as usize) < n {
-        return crate::refuse(Error::BufTooLarge, at);
+        return Err(Error::BufTooLarge);
     }
     if n == 0 {
-        return Raw {
-            answer: RawAnswer::Done,
-            at,
-        };
+        return Ok(());
     }
     if 256 < reg as usize + n {
-        return crate::refuse(Error::RegisterRunsOut, at);
+        return Err(Error::RegisterRunsOut);
     }
-    read_frame(address, reg, data, tape, log, at)
+    read_frame(link.address, reg, data, bus)
 }
 
 // A read of a frame, and what it gives; bytes not delivered count as zero.
-fn read_frame(address: u8, reg: u8, data: &mut [u8], tape: &[u8], log: &mut [u8], at: Cursor) -> Raw
+fn read_frame(address: u8, reg: u8, data: &mut [u8], bus: &mut Bus) -> Result<(), Error>
     requires { (1 ≤ length «data».old) × (length «data».old ≤ 30) }
-    ensures { does (ask_frame address reg «data».old) tape log at
-        (gives (as_raw result.answer) «data».new) result.at }
+    ensures { does (ask_frame address reg «data».old) bus (gives (as_raw result) «data».new) }
 {
     let n = data.len();
     let mut frame = [0u8; 66];
-    let moved = transfer::transfer_read(address, reg, &mut frame[..2 * n], tape, log, at);
-    let reply = moved.reply;
-    let next = moved.at;
-    let Reply::Made(fault, _) = reply else {
-        return Raw {
-            answer: crate::answer_of(reply),
-            at: next,
-        };
-    };
-    Raw {
-        answer: crate::take_frame(address, &frame, fault, data),
-        at: next,
-    }
+    let made = transfer::transfer_read(address, reg, &mut frame[..2 * n], bus)?;
+    crate::take_frame(address, &frame, made.fault, data)
 }
 
-pub(crate) fn read_long(
-    link: Link,
-    reg: u8,
-    data: &mut [u8],
-    tape: &[u8],
-    log: &mut [u8],
-    at: Cursor,
-) -> Raw
-    ensures { does (read_raw link reg «data».old) tape log at
-        (gives (as_raw result.answer) «data».new) result.at }
+pub(crate) fn read_long(link: Link, reg: u8, data: &mut [u8], bus: &mut Bus) -> Result<(), Error>
+    ensures { does (read_raw link reg «data».old) bus (gives (as_raw result) «data».new) }
 {
     if !link.is_sound() {
-        return crate::refuse(Error::BadDevice, at);
+        return Err(Error::BadDevice);
     }
     if link.check {
-        checked_read(link, reg, data, tape, log, at)
+        checked_read(link, reg, data, bus)
     } else {
-        plain_read(link, reg, data, tape, log, at)
+        plain_read(link, reg, data, bus)
     }
 }

@@ -3,56 +3,57 @@ ghost use Rattle.std.specs.Prelude.{◌≡◌, ◌+◌, ◌≤◌, ◌∷◌, le
 ghost use Rattle.frames.specs.Put.{put};
 ghost use Rattle.fields.specs.Fields.{field};
 ghost use Rattle.bus.specs.Transfers.{read, write, log_field, says, answered};
-ghost use Rattle.bus.specs.Lent.{lent_bus};
-ghost use Rattle.raw.specs.Inside.{judged, Heard, ReadBy, WrittenBy};
+ghost use Rattle.bus.specs.Raw.{as_raw};
+ghost use Rattle.raw.specs.Inside.{judged, Heard, ReadBy, WrittenBy, leaves, ending};
 
-use bus::Cursor;
+use bus::{Bus, Cursor};
 use refusals::Error;
 
-// What the tape says to a transfer: made, with a fault or without, and so many bytes delivered; or not made.
+// A transfer that was made: whether it ended with a fault, and how many bytes were delivered.
 #[derive(Clone, Copy)]
-pub(crate) enum Reply {
-    Made(bool, usize),
-    Stopped(Error),
+pub(crate) struct Made {
+    pub fault: bool,
+    pub len: usize,
 }
 
-#[derive(Clone, Copy)]
-pub(crate) struct Moved {
-    pub reply: Reply,
-    pub at: Cursor,
+impl Made {
+    // A fault is number 2.
+    pub(crate) fn done(self) -> Result<(), Error>
+        ensures { as_raw result ≡ ending self.fault }
+    {
+        if self.fault {
+            return Err(Error::I2CError);
+        }
+        Ok(())
+    }
 }
 
 // What a field says to a transfer that wants `want` bytes.
-fn judge(want: usize, tag: u8, len: usize) -> Reply
+fn judge(want: usize, tag: u8, len: usize) -> Result<Made, Error>
     ensures { result ≡ judged want tag len }
 {
-    if tag == 0x01 {
-        if len == want {
-            return Reply::Made(false, len);
-        }
-        return Reply::Stopped(Error::BadTape);
+    if (tag == 0x01) & (len == want) {
+        return Ok(Made { fault: false, len });
     }
-    if tag == 0x02 {
-        if len <= want {
-            return Reply::Made(true, len);
-        }
+    if (tag == 0x02) & (len <= want) {
+        return Ok(Made { fault: true, len });
     }
-    Reply::Stopped(Error::BadTape)
+    Err(Error::BadTape)
 }
 
 // 16, 15, then what the tape's next field says.
-fn hear(tape: &[u8], at: usize, want: usize) -> Reply
+fn hear(tape: &[u8], at: usize, want: usize) -> Result<Made, Error>
     ensures { Heard want (drop at tape.now) (says want (drop at tape.now)) result }
 {
     if tape.len() <= at {
-        return Reply::Stopped(Error::TapeEnded);
+        return Err(Error::TapeEnded);
     }
     if tape.len() - at < 3 {
-        return Reply::Stopped(Error::BadTape);
+        return Err(Error::BadTape);
     }
     let len = numbers::be_u16(tape[at + 1], tape[at + 2]) as usize;
     if tape.len() - at - 3 < len {
-        return Reply::Stopped(Error::BadTape);
+        return Err(Error::BadTape);
     }
     judge(want, tape[at], len)
 }
@@ -60,38 +61,18 @@ fn hear(tape: &[u8], at: usize, want: usize) -> Reply
 pub(crate) fn has_room(size: usize, used: usize, need: usize) -> bool
     ensures { result ≡ leb (used + need) size }
 {
-    if size < used {
-        return false;
-    }
-    if size - used < need {
-        return false;
-    }
-    true
+    (used <= size) && (need <= size - used)
 }
 
-// 17 where a field of `need` bytes does not fit a log of `size`, then as the tape says.
-fn answer(tape: &[u8], size: usize, at: Cursor, want: usize, need: usize) -> Reply
-    ensures { Heard want (drop at.tape tape.now)
-        (answered want need size tape.now at) result }
+// 17 where a field of `need` bytes does not fit the log, then as the tape says.
+fn answer(bus: &Bus, want: usize, need: usize) -> Result<Made, Error>
+    ensures { Heard want (drop bus.now.at.tape bus.now.tape.now)
+        (answered want need (length bus.now.log.now) bus.now.tape.now bus.now.at) result }
 {
-    let from = at.tape;
-    let used = at.log;
-    if !has_room(size, used, need) {
-        return Reply::Stopped(Error::LogFull);
+    if !has_room(bus.log.len(), bus.at.log, need) {
+        return Err(Error::LogFull);
     }
-    hear(tape, from, want)
-}
-
-// All of src into dst, from index at.
-fn copy_in(src: &[u8], dst: &mut [u8], at: usize)
-    requires { at + length src.now ≤ length dst.old }
-    ensures { dst.new ≡ put dst.old at src.now }
-{
-    let mut j = 0;
-    while j < src.len() {
-        dst[at + j] = src[j];
-        j += 1;
-    }
+    hear(bus.tape, bus.at.tape, want)
 }
 
 // A field whose value is `first` and then `rest`, into the log at `at`.
@@ -104,7 +85,7 @@ pub(crate) fn put_field(log: &mut [u8], at: usize, tag: u8, first: u8, rest: &[u
     log[at + 1] = (n / 256 % 256) as u8;
     log[at + 2] = (n % 256) as u8;
     log[at + 3] = first;
-    copy_in(rest, log, at + 4);
+    log[at + 4..at + 4 + rest.len()].copy_from_slice(rest);
 }
 
 // The field of a read, into the log at `at`.
@@ -116,73 +97,38 @@ pub(crate) fn log_read(log: &mut [u8], at: usize, address: u8, reg: u8, count: u
     put_field(log, at, 0x12, address, &rest);
 }
 
-// All of src, at most 256 bytes, over the first of dst. By way of an array of its own the compiler makes one move of memory of it:
-// copied straight, src and dst might overlap.
-pub(crate) fn deliver(src: &[u8], dst: &mut [u8])
-    requires { (length src.now ≤ 256) × (length src.now ≤ length dst.old) }
-    ensures { dst.new ≡ put dst.old 0 src.now }
-{
-    let n = src.len();
-    let mut held = [0u8; 256];
-    copy_in(src, &mut held, 0);
-    copy_in(&held[..n], dst, 0);
-}
-
 // i2c.write_read(address, &[reg], buf)
 pub(crate) fn transfer_read(
     address: u8,
     reg: u8,
     buf: &mut [u8],
-    tape: &[u8],
-    log: &mut [u8],
-    at: Cursor,
-) -> Moved
-    ensures { ReadBy (read address reg (length buf.old)) (lent_bus tape log at)
-        buf.old result buf.new log.new }
+    bus: &mut Bus,
+) -> Result<Made, Error>
+    ensures { leaves bus (ReadBy (read address reg (length buf.old)) buf.old result buf.new) }
 {
-    let from = at.tape;
-    let used = at.log;
     let count = buf.len();
-    let reply = answer(tape, log.len(), at, count, 7);
-    let Reply::Made(_, n) = reply else {
-        return Moved { reply, at };
+    let made = answer(bus, count, 7)?;
+    log_read(bus.log, bus.at.log, address, reg, count);
+    let start = bus.at.tape + 3;
+    let end = start + made.len;
+    buf[..made.len].copy_from_slice(&bus.tape[start..end]);
+    bus.at = Cursor {
+        tape: end,
+        log: bus.at.log + 7,
     };
-    log_read(log, used, address, reg, count);
-    let start = from + 3;
-    let end = start + n;
-    copy_in(&tape[start..end], buf, 0);
-    Moved {
-        reply,
-        at: Cursor {
-            tape: end,
-            log: used + 7,
-        },
-    }
+    Ok(made)
 }
 
 // i2c.write(address, bytes)
-pub(crate) fn transfer_write(
-    address: u8,
-    bytes: &[u8],
-    tape: &[u8],
-    log: &mut [u8],
-    at: Cursor,
-) -> Moved
-    ensures { WrittenBy (write address bytes.now) (lent_bus tape log at) result log.new }
+pub(crate) fn transfer_write(address: u8, bytes: &[u8], bus: &mut Bus) -> Result<Made, Error>
+    ensures { leaves bus (WrittenBy (write address bytes.now) result) }
 {
-    let from = at.tape;
-    let used = at.log;
     let need = 4 + bytes.len();
-    let reply = answer(tape, log.len(), at, 0, need);
-    let Reply::Made(_, n) = reply else {
-        return Moved { reply, at };
+    let made = answer(bus, 0, need)?;
+    put_field(bus.log, bus.at.log, 0x11, address, bytes);
+    bus.at = Cursor {
+        tape: bus.at.tape + 3 + made.len,
+        log: bus.at.log + need,
     };
-    put_field(log, used, 0x11, address, bytes);
-    Moved {
-        reply,
-        at: Cursor {
-            tape: from + 3 + n,
-            log: used + need,
-        },
-    }
+    Ok(made)
 }

@@ -1,18 +1,17 @@
 // The short way of a transfer: where log and tape let it be done it is done, and where not nothing is touched.
-ghost use Rattle.std.specs.Prelude.{◌≡◌, ◌+◌, ◌≤◌, length, drop, true, false};
-ghost use Rattle.bus.specs.Transfers.{read, write, bus_of, says, outcome};
-ghost use Rattle.bus.specs.Lent.{lent_bus};
-ghost use Rattle.raw.specs.Inside.{Heard, ReadWhole, GotBy, SentBy, EchoedBy};
-ghost use Rattle.raw.specs.declared.transfer.Reply.TheVariants.{Made};
+ghost use Rattle.std.specs.Prelude.{◌≡◌, ◌+◌, ◌≤◌, length, drop, true};
+ghost use Rattle.bus.specs.Transfers.{read, write, says, outcome};
+ghost use Rattle.bus.specs.Lent.{held};
+ghost use Rattle.raw.specs.Inside.{Heard, whole, ReadWhole, GotBy, SentBy, EchoedBy, leaves};
 
-use crate::{further, transfer};
-use bus::Cursor;
+use crate::transfer;
+use bus::{Bus, Cursor};
 
 // Whether the tape's next field is that of a transfer that is done, with all that it wants.
 fn is_done(tape: &[u8], from: usize, want: usize) -> bool
     requires { want ≤ 256 }
     ensures { result ≡ true → Heard want (drop from tape.now)
-        (says want (drop from tape.now)) (Made false want) }
+        (says want (drop from tape.now)) (whole want) }
 {
     if !transfer::has_room(tape.len(), from, want + 3) {
         return false;
@@ -21,80 +20,73 @@ fn is_done(tape: &[u8], from: usize, want: usize) -> bool
 }
 
 // A read that is done: its field into the log, its bytes over the buffer.
-fn take(address: u8, reg: u8, buf: &mut [u8], tape: &[u8], log: &mut [u8], at: Cursor)
+fn take(address: u8, reg: u8, buf: &mut [u8], bus: &mut Bus)
     requires buf_len_bound { length buf.old ≤ 256 }
-    requires heard { Heard (length buf.old) (drop at.tape tape.now)
-        (outcome (read address reg (length buf.old)) (bus_of tape.now log.old at)) (Made false (length buf.old)) }
-    ensures { ReadWhole (read address reg (length buf.old)) (lent_bus tape log at)
-        buf.old buf.new log.new }
+    requires heard { Heard (length buf.old) (drop bus.old.at.tape bus.old.tape.now)
+        (outcome (read address reg (length buf.old)) (held bus.old)) (whole (length buf.old)) }
+    ensures { leaves bus (ReadBy (read address reg (length buf.old)) buf.old (whole (length buf.old)) buf.new) }
 {
     let count = buf.len();
-    transfer::log_read(log, at.log, address, reg, count);
-    let start = at.tape + 3;
+    transfer::log_read(bus.log, bus.at.log, address, reg, count);
+    let start = bus.at.tape + 3;
     let end = start + count;
-    transfer::deliver(&tape[start..end], buf);
+    buf.copy_from_slice(&bus.tape[start..end]);
+    bus.at = Cursor {
+        tape: end,
+        log: bus.at.log + 7,
+    };
+}
+
+// A write that is done: its field into the log.
+fn put(address: u8, frame: &[u8], bus: &mut Bus)
+    requires heard { Heard 0 (drop bus.old.at.tape bus.old.tape.now)
+        (outcome (write address frame.now) (held bus.old)) (whole 0) }
+    ensures { leaves bus (WrittenBy (write address frame.now) (whole 0)) }
+{
+    transfer::put_field(bus.log, bus.at.log, 0x11, address, frame);
+    bus.at = Cursor {
+        tape: bus.at.tape + 3,
+        log: bus.at.log + 4 + frame.len(),
+    };
 }
 
 // A read, where it can be done.
-pub(crate) fn got(
-    address: u8,
-    reg: u8,
-    buf: &mut [u8],
-    tape: &[u8],
-    log: &mut [u8],
-    at: Cursor,
-) -> bool
+pub(crate) fn got(address: u8, reg: u8, buf: &mut [u8], bus: &mut Bus) -> bool
     requires { length buf.old ≤ 256 }
-    ensures { GotBy (read address reg (length buf.old)) (lent_bus tape log at)
-        buf.old result buf.new log.new }
+    ensures { leaves bus (GotBy (read address reg (length buf.old)) buf.old result buf.new) }
 {
-    if transfer::has_room(log.len(), at.log, 7) & is_done(tape, at.tape, buf.len()) {
-        take(address, reg, buf, tape, log, at);
-        return true;
+    let can = transfer::has_room(bus.log.len(), bus.at.log, 7)
+        & is_done(bus.tape, bus.at.tape, buf.len());
+    if can {
+        take(address, reg, buf, bus);
     }
-    false
+    can
 }
 
 // A write, where it can be done.
-pub(crate) fn sent(address: u8, frame: &[u8], tape: &[u8], log: &mut [u8], at: Cursor) -> bool
-    ensures { SentBy (write address frame.now) (lent_bus tape log at)
-        (length frame.now) result log.new }
+pub(crate) fn sent(address: u8, frame: &[u8], bus: &mut Bus) -> bool
+    ensures { leaves bus (SentBy (write address frame.now) result) }
 {
-    let from = at.tape;
-    let used = at.log;
-    if transfer::has_room(log.len(), used, 4 + frame.len()) & is_done(tape, from, 0) {
-        transfer::put_field(log, used, 0x11, address, frame);
-        return true;
+    let can = transfer::has_room(bus.log.len(), bus.at.log, 4 + frame.len())
+        & is_done(bus.tape, bus.at.tape, 0);
+    if can {
+        put(address, frame, bus);
     }
-    false
+    can
 }
 
 // A write, and after it a read of what was written, where both can be done.
-pub(crate) fn echoed(
-    address: u8,
-    reg: u8,
-    frame: &[u8],
-    back: &mut [u8],
-    tape: &[u8],
-    log: &mut [u8],
-    at: Cursor,
-) -> bool
+pub(crate) fn echoed(address: u8, reg: u8, frame: &[u8], back: &mut [u8], bus: &mut Bus) -> bool
     requires { length back.old ≤ 256 }
-    ensures { EchoedBy (write address frame.now) (read address reg (length back.old))
-        (lent_bus tape log at) (length frame.now) back.old result back.new log.new }
+    ensures { leaves bus (EchoedBy (write address frame.now) (read address reg (length back.old)) back.old result back.new) }
 {
-    let n = 4 + frame.len();
-    let used = at.log;
-    let from = at.tape;
-    let count = back.len();
-    if transfer::has_room(log.len(), used, n + 7)
-        & transfer::has_room(tape.len(), from, count + 6)
-    {
-        if is_done(tape, from, 0) & is_done(tape, from + 3, count) {
-            transfer::put_field(log, used, 0x11, address, frame);
-            take(address, reg, back, tape, log, further(at, 3, n));
-            return true;
-        }
+    let from = bus.at.tape;
+    let room = transfer::has_room(bus.log.len(), bus.at.log, 4 + frame.len() + 7)
+        & transfer::has_room(bus.tape.len(), from, back.len() + 6);
+    let can = room && is_done(bus.tape, from, 0) & is_done(bus.tape, from + 3, back.len());
+    if can {
+        put(address, frame, bus);
+        take(address, reg, back, bus);
     }
-    false
+    can
 }
