@@ -1,50 +1,44 @@
--- Two outcomes that meet one promise agree: in the answer, the record, the tape's and the log's position, and the log's bytes.
+-- Two outcomes that meet one promise agree: in the answer, in the record, and in tape, log and both positions.
 -- Assumes nothing.
 use mathlib.Core.Path.{◌≡◌}
-use Prim.Native.Nat.{ℕ}
-use mathlib.Core.List.{List}
+use Rattle.std.specs.Prelude.{Result}
+use Rattle.refusals.specs.declared.Error.{Error}
 use Rattle.plan.specs.Plan.{Values, as_init}
+use Rattle.plan.specs.declared.CalculatedValues.{CalculatedValues}
 use Rattle.plan.proofs.Agree.{answer_agree}
 use Rattle.bus.specs.Transfers.{Bus}
-use Rattle.bus.specs.Programs.{Prog, ran, on_tape}
+use Rattle.bus.specs.Programs.{Prog, ends, on_tape}
 use Rattle.bus.specs.Raw.{Done, as_raw}
 use Rattle.bus.proofs.Agree.{raw_agree}
 use Rattle.bq769x0.specs.Record.{with_head, Left, leaves}
+use Rattle.bq769x0.specs.declared.BQ769x0.{BQ769x0}
+use Rattle.bq769x0.specs.declared.Head.{Head}
 use Rattle.bq769x0.specs.declared.Readings.{Readings}
 use Rattle.bq769x0.proofs.Agree.{head_agree, left_agree}
-use Rattle.setup.specs.declared.left.Calibrated.{Calibrated}
-use Rattle.setup.specs.declared.left.Init.{Init}
-use Rattle.setup.specs.declared.left.SetUp.{SetUp}
 
 -- `read_adc_characteristics`
-pub calibrated_agree : (p : Prog (Left Done)) (b : Bus) (r r' : Calibrated) (log log' : List ℕ)
-    → ran (leaves (as_raw r.answer) r.device) b.tape log r.at ≡ on_tape p b
-    → ran (leaves (as_raw r'.answer) r'.device) b.tape log' r'.at ≡ on_tape p b
-    → (r ≡ r') × (log ≡ log')
-calibrated_agree p b r r' log log' e e' =
-    let same = left_agree p b (as_raw r.answer) (as_raw r'.answer) r.device r'.device log log' r.at r'.at e e' in
-    let a = raw_agree r.answer r'.answer same.0 in
-    (λ i. record { answer = a i; device = same.1 i; at = same.2 i }, same.3)
+pub calibrated_agree : (p : Prog (Left Done)) (b after after' : Bus) (a a' : Result Done Error) (d d' : BQ769x0)
+    → ends (leaves (as_raw a) d) after ≡ on_tape p b
+    → ends (leaves (as_raw a') d') after' ≡ on_tape p b
+    → (a ≡ a') × (d ≡ d') × (after ≡ after')
+calibrated_agree p b after after' a a' d d' e e' =
+    let same = left_agree p b (as_raw a) (as_raw a') d d' after after' e e' in
+    (raw_agree a a' same.0, same.1, same.2)
 
 -- `init`
-pub init_agree : (p : Prog (Left Values)) (b : Bus) (r r' : Init) (log log' : List ℕ)
-    → ran (leaves (as_init r.answer) r.device) b.tape log r.at ≡ on_tape p b
-    → ran (leaves (as_init r'.answer) r'.device) b.tape log' r'.at ≡ on_tape p b
-    → (r ≡ r') × (log ≡ log')
-init_agree p b r r' log log' e e' =
-    let same = left_agree p b (as_init r.answer) (as_init r'.answer) r.device r'.device log log' r.at r'.at e e' in
-    let a = answer_agree r.answer r'.answer same.0 in
-    (λ i. record { answer = a i; device = same.1 i; at = same.2 i }, same.3)
+pub init_agree : (p : Prog (Left Values)) (b after after' : Bus) (a a' : Result CalculatedValues Error) (d d' : BQ769x0)
+    → ends (leaves (as_init a) d) after ≡ on_tape p b
+    → ends (leaves (as_init a') d') after' ≡ on_tape p b
+    → (a ≡ a') × (d ≡ d') × (after ≡ after')
+init_agree p b after after' a a' d d' e e' =
+    let same = left_agree p b (as_init a) (as_init a') d d' after after' e e' in
+    (answer_agree a a' same.0, same.1, same.2)
 
 -- `set_up`, on a record of any readings
-pub set_up_agree : (p : Prog (Left Values)) (b : Bus) (readings : Readings) (r r' : SetUp) (log log' : List ℕ)
-    → ran (leaves (as_init r.answer) (with_head r.head readings)) b.tape log r.at ≡ on_tape p b
-    → ran (leaves (as_init r'.answer) (with_head r'.head readings)) b.tape log' r'.at ≡ on_tape p b
-    → (r ≡ r') × (log ≡ log')
-set_up_agree p b readings r r' log log' e e' =
-    let same =
-    left_agree p b (as_init r.answer) (as_init r'.answer) (with_head r.head readings) (with_head r'.head readings)
-    log log' r.at r'.at e e' in
-    let a = answer_agree r.answer r'.answer same.0 in
-    let h = head_agree r.head r'.head readings same.1 in
-    (λ i. record { answer = a i; head = h i; at = same.2 i }, same.3)
+pub set_up_agree : (p : Prog (Left Values)) (b after after' : Bus) (readings : Readings) (a a' : Result CalculatedValues Error) (h h' : Head)
+    → ends (leaves (as_init a) (with_head h readings)) after ≡ on_tape p b
+    → ends (leaves (as_init a') (with_head h' readings)) after' ≡ on_tape p b
+    → (a ≡ a') × (h ≡ h') × (after ≡ after')
+set_up_agree p b after after' readings a a' h h' e e' =
+    let same = init_agree p b after after' a a' (with_head h readings) (with_head h' readings) e e' in
+    (same.0, head_agree h h' readings same.1, same.2)

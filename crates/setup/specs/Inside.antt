@@ -1,22 +1,27 @@
--- What private contracts cite: what a stage of `init` that takes no record comes to, for a record. Nobody has to believe it.
+-- What private contracts cite: stages of `init` that need no more than the link. Nobody has to believe it.
 -- Assumes nothing.
-use Rattle.std.specs.Prelude.{ℕ, List}
-use Rattle.refusals.specs.Refusal.{Answer, value, refused}
-use Rattle.plan.specs.Plan.{Values}
-use Rattle.plan.specs.declared.Config.{Config}
-use Rattle.bus.specs.Programs.{Prog, ret}
-use Rattle.bus.specs.Raw.{Done}
-use Rattle.bq769x0.specs.Record.{Left, leaves, leaving, with_shunt}
-use Rattle.procedure.specs.Calibrate.{calibrated}
-use Rattle.procedure.specs.Init.{start_counter}
-use Rattle.bq769x0.specs.declared.BQ769x0.{BQ769x0}
+use Rattle.std.specs.Prelude.{[], ◌∷◌, get_or, Result}
+use Rattle.std.specs.Int.Bits.{bit_or}
+use Rattle.refusals.specs.Refusal.{Answer, value, refused, as_answer}
+use Rattle.refusals.specs.declared.Error.{Error}
+use Rattle.adc.specs.Registers.{calibration}
+use Rattle.adc.specs.declared.transfer.AdcTransferFunction.{AdcTransferFunction}
+use Rattle.bus.specs.Programs.{Prog, ret, ◌or_leave◌, ◌>>=◌}
+use Rattle.bus.specs.Raw.{Done, read_bytes, write_raw}
+use Rattle.bus.specs.declared.link.Link.{Link}
 
--- the two reads, of these bytes
-abbrev pub calibrated_by : BQ769x0 → Answer Done → List ℕ → List ℕ → Left Done
-calibrated_by d (value done) first second = leaves (value tt) (calibrated d first second)
-calibrated_by d (refused r) first second = leaving d r
+abbrev pub as_calibration : Result AdcTransferFunction Error → Answer AdcTransferFunction
+as_calibration = as_answer (λ adc. adc)
 
--- what is left of `protect` after the six bytes
-abbrev pub protected_by : Config → BQ769x0 → Answer Values → Prog (Left Values)
-protected_by config d (value values) = start_counter (with_shunt d config.shunt) values
-protected_by config d (refused r) = ret (leaving d r)
+-- the two reads, and what they give
+unfoldable pub calibration_read : Link → Prog (Answer AdcTransferFunction)
+calibration_read link = do
+  first ← read_bytes link 0x50 2 or_leave refused
+  second ← read_bytes link 0x59 1 or_leave refused
+  ret (value (calibration (get_or first 0 0) (get_or first 1 0) (get_or second 0 0)))
+
+-- 05 with the counter let run
+unfoldable pub counter_started : Link → Prog (Answer Done)
+counter_started link = do
+  byte ← read_bytes link 0x05 1 or_leave refused
+  write_raw link 0x05 (bit_or (get_or byte 0 0) 0b0100_0000 ∷ [])

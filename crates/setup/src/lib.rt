@@ -9,72 +9,32 @@ ghost use Rattle.bq769x0.specs.Record.{leaves, with_head};
 ghost use Rattle.bq769x0.specs.declared.Readings.{Readings};
 ghost use Rattle.procedure.specs.Init.{set_up, init_by};
 
-use crate::left::{Init, SetUp};
-use adc::transfer::AdcTransferFunction;
 use bq769x0::{BQ769x0, Head};
-use bus::Cursor;
-use bus::link::RawAnswer;
-use plan::{Config, InitAnswer, StepsAnswer};
+use bus::Bus;
+use plan::{CalculatedValues, Config};
 use refusals::Error;
 
 pub mod calibrate;
-pub mod left;
 mod stages;
 
-pub fn init(device: BQ769x0, config: Config, tape: &[u8], log: &mut [u8], at: Cursor) -> Init
-    ensures { does (init_by steps_for device config) tape log at (leaves (as_init result.answer) result.device) result.at }
+pub fn init(device: &mut BQ769x0, config: Config, bus: &mut Bus) -> Result<CalculatedValues, Error>
+    ensures { does (init_by steps_for device.old config) bus (leaves (as_init result) device.new) }
 {
     if !device.is_sound() {
-        return Init {
-            answer: InitAnswer::Refused(Error::BadDevice),
-            device,
-            at,
-        };
+        return Err(Error::BadDevice);
     }
-    let done = set_up(device.head(), config, tape, log, at);
-    let answer = done.answer;
-    let next = done.at;
-    Init {
-        answer,
-        device: device.with_head(done.head),
-        at: next,
-    }
+    let mut head = device.head();
+    let answer = set_up(&mut head, config, bus);
+    device.set_head(head);
+    answer
 }
 
 // The same on the head alone, with no test that the record is sound.
-pub fn set_up(head: Head, config: Config, tape: &[u8], log: &mut [u8], at: Cursor) -> SetUp
-    ensures { (readings : Readings) → does (set_up steps_for (with_head head readings) config) tape log at
-        (leaves (as_init result.answer) (with_head result.head readings)) result.at }
+pub fn set_up(head: &mut Head, config: Config, bus: &mut Bus) -> Result<CalculatedValues, Error>
+    ensures { (readings : Readings) → does (set_up steps_for (with_head head.old readings) config) bus
+        (leaves (as_init result) (with_head head.new readings)) }
 {
-    let chosen = config.steps();
-    let StepsAnswer::Chosen(steps) = chosen else {
-        return leave(InitAnswer::Refused(chosen.refusal()), head, at);
-    };
-    let link = head.link;
-    let mut gain1_offset = [0u8; 2];
-    let mut gain2 = [0u8; 1];
-    let read = calibrate::calibrate(link, &mut gain1_offset, &mut gain2, tape, log, at);
-    let answer = read.answer;
-    let next = read.at;
-    let RawAnswer::Done = answer else {
-        return leave(InitAnswer::Refused(answer.refusal()), head, next);
-    };
-    let adc = AdcTransferFunction::from_registers(gain1_offset[0], gain1_offset[1], gain2[0]);
-    let head = head.store_calibration(adc);
-    let protected = stages::protect(link, adc, config, steps, tape, log, next);
-    let answer = protected.answer;
-    let next = protected.at;
-    let InitAnswer::Ready(values) = answer else {
-        return leave(answer, head, next);
-    };
-    let started = stages::start_counter(link, values, tape, log, next);
-    let answer = started.answer;
-    let next = started.at;
-    leave(answer, head.store_shunt(config.shunt), next)
-}
-
-fn leave(answer: InitAnswer, head: Head, at: Cursor) -> SetUp
-    ensures { result ≡ record { answer = answer; head = head; at = at } }
-{
-    SetUp { answer, head, at }
+    let steps = config.steps()?;
+    head.store_calibration(calibrate::calibrate(head.link, bus)?);
+    stages::protect(head, config, steps, bus)
 }

@@ -1,93 +1,42 @@
-// The stages of `init` after the calibration, each for any record of this link.
-ghost use Rattle.std.specs.Prelude.{◌≡◌};
+// The stages of `init` after the calibration.
+ghost use Rattle.bus.specs.Lent.{does};
 ghost use Rattle.plan.specs.Steps.{in_mv};
-ghost use Rattle.plan.specs.Plan.{as_init, as_values};
-ghost use Rattle.bus.specs.Transfers.{bus_of};
-ghost use Rattle.bus.specs.Programs.{on_tape};
-ghost use Rattle.bus.specs.Lent.{lent_bus, does};
-ghost use Rattle.bq769x0.specs.Record.{leaves};
-ghost use Rattle.bq769x0.specs.declared.BQ769x0.{BQ769x0};
-ghost use Rattle.procedure.specs.Init.{start_counter, protect};
-ghost use Rattle.setup.specs.Inside.{protected_by};
+ghost use Rattle.plan.specs.Plan.{as_init};
+ghost use Rattle.bus.specs.Raw.{as_raw};
+ghost use Rattle.bq769x0.specs.Record.{leaves, with_head};
+ghost use Rattle.bq769x0.specs.declared.Readings.{Readings};
+ghost use Rattle.procedure.specs.Init.{protect};
+ghost use Rattle.setup.specs.Inside.{counter_started};
 
-use crate::left::Stage;
-use adc::transfer::AdcTransferFunction;
-use bq769x0::BQ769x0;
-use bus::Cursor;
-use bus::link::{Link, RawAnswer};
-use plan::{CalculatedValues, Config, InitAnswer, Steps, six_bytes};
+use bq769x0::{BQ769x0, Head};
+use bus::Bus;
+use bus::link::Link;
+use plan::{CalculatedValues, Config, Steps, six_bytes};
+use refusals::Error;
 
-// The six bytes.
+// The six bytes, and the counter after them.
 pub(crate) fn protect(
-    link: Link,
-    adc: AdcTransferFunction,
+    head: &mut Head,
     config: Config,
     steps: Steps,
-    tape: &[u8],
-    log: &mut [u8],
-    at: Cursor,
-) -> Stage
-    ensures { (d : BQ769x0) → d.link ≡ link → d.adc ≡ adc
-        → on_tape (protected_by config d (as_init result.answer)) (bus_of tape.now log.new result.at)
-        ≡ on_tape (protect config (in_mv steps) d) (lent_bus tape log at) }
+    bus: &mut Bus,
+) -> Result<CalculatedValues, Error>
+    ensures { (readings : Readings) → does (protect config (in_mv steps) (with_head head.old readings)) bus
+        (leaves (as_init result) (with_head head.new readings)) }
 {
-    let plan = six_bytes::plan(adc, config, steps);
-    let planned = plan.answer;
-    let regs = plan.regs;
-    let InitAnswer::Ready(_) = planned else {
-        return Stage {
-            answer: planned,
-            at,
-        };
-    };
-    let wrote = raw::short::write_six(link, BQ769x0::PROTECT1, &regs, tape, log, at);
-    let answer = wrote.answer;
-    let next = wrote.at;
-    let RawAnswer::Done = answer else {
-        return Stage {
-            answer: InitAnswer::Refused(answer.refusal()),
-            at: next,
-        };
-    };
-    Stage {
-        answer: planned,
-        at: next,
-    }
+    let plan = six_bytes::plan(head.adc, config, steps)?;
+    raw::short::write_six(head.link, BQ769x0::PROTECT1, &plan.regs, bus)?;
+    head.store_shunt(config.shunt);
+    start_counter(head.link, bus)?;
+    Ok(plan.values)
 }
 
 // 05, with what was read kept.
-pub(crate) fn start_counter(
-    link: Link,
-    values: CalculatedValues,
-    tape: &[u8],
-    log: &mut [u8],
-    at: Cursor,
-) -> Stage
-    ensures { (d : BQ769x0) → d.link ≡ link
-        → does (start_counter d (as_values values)) tape log at (leaves (as_init result.answer) d) result.at }
+fn start_counter(link: Link, bus: &mut Bus) -> Result<(), Error>
+    ensures { does (counter_started link) bus (as_raw result) }
 {
     let mut sysctrl2 = [0u8; 1];
-    let read = raw::short::read_one(link, BQ769x0::SYS_CTRL2, &mut sysctrl2, tape, log, at);
-    let answer = read.answer;
-    let next = read.at;
-    let RawAnswer::Done = answer else {
-        return Stage {
-            answer: InitAnswer::Refused(answer.refusal()),
-            at: next,
-        };
-    };
+    raw::short::read_one(link, BQ769x0::SYS_CTRL2, &mut sysctrl2, bus)?;
     let on = [sysctrl2[0] | 0b0100_0000]; // !!CC_EN!!
-    let wrote = raw::short::write_one(link, BQ769x0::SYS_CTRL2, &on, tape, log, next);
-    let answer = wrote.answer;
-    let next = wrote.at;
-    let RawAnswer::Done = answer else {
-        return Stage {
-            answer: InitAnswer::Refused(answer.refusal()),
-            at: next,
-        };
-    };
-    Stage {
-        answer: InitAnswer::Ready(values),
-        at: next,
-    }
+    raw::short::write_one(link, BQ769x0::SYS_CTRL2, &on, bus)
 }
