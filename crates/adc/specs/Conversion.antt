@@ -1,10 +1,10 @@
 -- Readings to millivolts and milliamperes. Each is a whole number with a sign, the exact quotient with its fraction dropped.
 -- Assumes nothing.
-use Rattle.std.specs.Prelude.{ℕ, ◌*◌, ◌||◌, eqb, ltb, ℤ, pos, ◌+ℤ◌, ◌*ℤ◌}
+use Rattle.std.specs.Prelude.{ℕ, ◌*◌, ◌||◌, eqb, ltb, ℤ, pos, ◌+ℤ◌, ◌*ℤ◌, Result}
 use Rattle.numbers.specs.Numbers.{◌÷◌}
-use Rattle.refusals.specs.Refusal.{Answer, value, refused, refused_if, as_refusal}
-use Rattle.adc.specs.declared.counter.CurrentAnswer.{CurrentAnswer}
-use Rattle.adc.specs.declared.counter.CurrentAnswer.TheVariants.{Flows, Refused}
+use Rattle.refusals.specs.Refusal.{Answer, value, refused_if, as_answer}
+use Rattle.refusals.specs.declared.Error.{Error}
+use Rattle.units.specs.declared.MilliAmperes.{MilliAmperes}
 
 -- a cell input: gain (µV a step) times the reading, and the offset (mV)
 abbrev pub millivolts : ℕ → ℤ → ℕ → ℤ
@@ -19,6 +19,5 @@ abbrev pub milliamperes : ℤ → ℕ → Answer ℤ
 milliamperes count shunt =
     refused_if (eqb shunt 0 || ltb 2147483647 shunt) 12 (value ((count *ℤ pos 8440) ÷ shunt))
 
-abbrev pub as_current : CurrentAnswer → Answer ℤ
-as_current (Flows current) = value current.0
-as_current (Refused e) = refused (as_refusal e)
+abbrev pub as_current : Result MilliAmperes Error → Answer ℤ
+as_current = as_answer (λ current. current.0)

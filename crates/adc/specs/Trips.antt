@@ -1,12 +1,11 @@
 -- The trip registers: the reading that a code stands for, and the code that an asked voltage gets.
 -- Assumes nothing.
-use Rattle.std.specs.Prelude.{ℕ, ◌+◌, ◌*◌, eqb, ℤ, pos, ◌-ℤ◌, ◌*ℤ◌}
+use Rattle.std.specs.Prelude.{ℕ, ◌+◌, ◌*◌, eqb, ℤ, pos, ◌-ℤ◌, ◌*ℤ◌, Result}
 use Rattle.numbers.specs.Numbers.{◌÷↓◌, ◌%↓◌}
-use Rattle.refusals.specs.Refusal.{Answer, value, refused, refused_if, as_refusal}
+use Rattle.refusals.specs.Refusal.{Answer, value, refused_if, as_answer}
+use Rattle.refusals.specs.declared.Error.{Error}
 use Rattle.adc.specs.Conversion.{millivolts}
 use Rattle.adc.specs.declared.transfer.Limits.{Limits}
-use Rattle.adc.specs.declared.transfer.Asked.{Asked}
-use Rattle.adc.specs.declared.transfer.Asked.TheVariants.{Reading, Refused}
 
 -- OV_TRIP: the reading 10 tttt tttt 1000, t the code
 abbrev pub ov_trip : ℕ → ℕ
@@ -35,6 +34,5 @@ asked_reading gain offset asked = refused_if (eqb gain 0) 9 (value (reading_of g
 abbrev pub trip_code : ℤ → ℕ
 trip_code reading = reading ÷↓ 16 %↓ 256
 
-abbrev pub as_asked : Asked → Answer ℤ
-as_asked (Reading reading) = value reading
-as_asked (Refused e) = refused (as_refusal e)
+abbrev pub as_asked : Result ℤ Error → Answer ℤ
+as_asked = as_answer (λ reading. reading)

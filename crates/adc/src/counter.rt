@@ -5,22 +5,13 @@ ghost use Rattle.adc.specs.Conversion.{milliamperes, as_current};
 use refusals::Error;
 use units::{MicroOhms, MilliAmperes};
 
-#[derive(Clone, Copy)]
-pub enum CurrentAnswer {
-    Flows(MilliAmperes),
-    Refused(Error),
-}
-
-pub fn current(cc: i16, shunt: MicroOhms) -> CurrentAnswer
+pub fn current(cc: i16, shunt: MicroOhms) -> Result<MilliAmperes, Error>
     ensures { as_current result ≡ milliamperes cc shunt.0 }
 {
     let shunt = shunt.0;
-    if shunt == 0 {
-        return CurrentAnswer::Refused(Error::BadShunt);
-    }
-    if 2147483647 < shunt {
-        return CurrentAnswer::Refused(Error::BadShunt);
+    if (shunt == 0) | (2147483647 < shunt) {
+        return Err(Error::BadShunt);
     }
     let vshunt = cc as i32 * 8440;
-    CurrentAnswer::Flows(MilliAmperes(vshunt / shunt as i32))
+    Ok(MilliAmperes(vshunt / shunt as i32))
 }

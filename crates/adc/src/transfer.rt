@@ -22,12 +22,6 @@ pub struct Limits {
     pub high: MilliVolts,
 }
 
-#[derive(Clone, Copy)]
-pub enum Asked {
-    Reading(i64),
-    Refused(Error),
-}
-
 impl AdcTransferFunction {
     // The calibration in registers 50, 51 and 59.
     pub fn from_registers(b50: u8, b51: u8, b59: u8) -> AdcTransferFunction
@@ -42,18 +36,16 @@ impl AdcTransferFunction {
     pub fn apply(self, adc_reading: u16) -> MilliVolts
         ensures { result.0 ≡ millivolts self.gain self.offset adc_reading }
     {
-        let offset = self.offset;
-        MilliVolts(per_thousand(adc_reading as u64 * self.gain as u64, offset, 1000))
+        MilliVolts(per_thousand(adc_reading as u64 * self.gain as u64, self.offset, 1000))
     }
 
     // The pack's voltage, with the offset taken once per fitted cell.
     pub fn pack_voltage(self, cells: u8, adc_reading: u16) -> MilliVolts
         ensures { result.0 ≡ pack_millivolts cells self.gain self.offset adc_reading }
     {
-        let offset = self.offset;
         MilliVolts(per_thousand(
             4 * self.gain as u64 * adc_reading as u64,
-            offset,
+            self.offset,
             cells as u32 * 1000,
         ))
     }
@@ -84,16 +76,14 @@ impl AdcTransferFunction {
     }
 
     // The reading at which the converter shows an asked voltage, rounded down.
-    pub fn asked_reading(self, asked: MilliVolts) -> Asked
+    pub fn asked_reading(self, asked: MilliVolts) -> Result<i64, Error>
         ensures { as_asked result ≡ asked_reading self.gain self.offset asked.0 }
     {
         let gain = self.gain;
         if gain == 0 {
-            return Asked::Refused(Error::BadDevice);
+            return Err(Error::BadDevice);
         }
-        Asked::Reading(
-            round::floor_div((asked.0 as i64 - self.offset as i64) * 1000, gain).quotient,
-        )
+        Ok(round::floor_div((asked.0 as i64 - self.offset as i64) * 1000, gain).quotient)
     }
 }
 

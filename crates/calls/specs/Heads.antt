@@ -1,19 +1,16 @@
 -- The head that bytes begin with: field 20, the device, then call fields, each lawful, then 3F 0000; the tape follows. Anything else is 15.
 -- Assumes nothing.
-use Rattle.std.specs.Prelude.{ℕ, zero, suc, ◌+◌, Bool, cond, ◌&&◌, List, [], length, drop, eqb}
+use Rattle.std.specs.Prelude.{ℕ, zero, suc, ◌+◌, Bool, cond, ◌&&◌, List, [], length, drop, eqb, Result}
 use Rattle.std.proofs.Math.Option.{Option, none, some}
 use Rattle.fields.specs.Fields.{unfield}
 use Rattle.fields.specs.Fields as read
-use Rattle.refusals.specs.Refusal.{Answer, value, refused, no, as_refusal}
+use Rattle.refusals.specs.Refusal.{Answer, value, refused, no, as_answer}
+use Rattle.refusals.specs.declared.Error.{Error}
 use Rattle.job.specs.Jobs.{device_for}
 use Rattle.job.specs.declared.Device.{Device}
 use Rattle.calls.specs.Shapes.{lawful}
 use Rattle.calls.specs.declared.Field.{Field}
-use Rattle.calls.specs.declared.FieldAnswer.{FieldAnswer}
-use Rattle.calls.specs.declared.FieldAnswer.TheVariants as F
 use Rattle.calls.specs.declared.Heading.{Heading}
-use Rattle.calls.specs.declared.HeadAnswer.{HeadAnswer}
-use Rattle.calls.specs.declared.HeadAnswer.TheVariants as H
 
 -- where a field lies that begins at byte `at` of the input
 abbrev pub placed : ℕ → read.Field → Field
@@ -27,9 +24,8 @@ found_at at none = refused (no 15 [])
 unfoldable pub field_at : ℕ → List ℕ → Answer Field
 field_at at bytes = found_at at (unfield bytes)
 
-abbrev pub as_field : FieldAnswer → Answer Field
-as_field (F.Found field) = value field
-as_field (F.Refused e) = refused (as_refusal e)
+abbrev pub as_field : Result Field Error → Answer Field
+as_field = as_answer (λ field. field)
 
 -- 3F 0000
 abbrev pub is_end : read.Field → Bool
@@ -55,6 +51,5 @@ headed (refused r) end = refused r
 unfoldable pub heading_of : List ℕ → Answer Heading
 heading_of bytes = headed (device_for bytes) (end_from (length bytes) 7 (drop 7 bytes))
 
-abbrev pub as_head : HeadAnswer → Answer Heading
-as_head (H.Wanted heading) = value heading
-as_head (H.Refused e) = refused (as_refusal e)
+abbrev pub as_head : Result Heading Error → Answer Heading
+as_head = as_answer (λ heading. heading)

@@ -1,6 +1,6 @@
 -- The call fields: for each tag what its value is. Any other tag is no call's.
 -- Assumes nothing.
-use Rattle.std.specs.Prelude.{ℕ, Bool, false, cond, ◌&&◌, List, [], ◌∷◌, length, eqb, leb, ltb}
+use Rattle.std.specs.Prelude.{ℕ, Bool, false, cond, ◌&&◌, List, [], ◌∷◌, length, eqb, leb, ltb, Option, Some, None}
 use Rattle.numbers.specs.Numbers.{word}
 use Rattle.job.specs.Jobs.{byte_at, is_config}
 use Rattle.calls.specs.declared.Shape.{Shape}
@@ -34,11 +34,11 @@ shapes =
     ∷ (0x38, S.Empty)  -- spread
     ∷ []
 
-abbrev pub shape_in : List (ℕ × Shape) → ℕ → Shape
-shape_in [] tag = S.Unknown
-shape_in (row ∷ rows) tag = cond (eqb tag row.0) row.1 (shape_in rows tag)
+abbrev pub shape_in : List (ℕ × Shape) → ℕ → Option Shape
+shape_in [] tag = None
+shape_in (row ∷ rows) tag = cond (eqb tag row.0) (Some row.1) (shape_in rows tag)
 
-unfoldable pub shape_of : ℕ → Shape
+unfoldable pub shape_of : ℕ → Option Shape
 shape_of tag = shape_in shapes tag
 
 -- one byte below a bound
@@ -54,7 +54,6 @@ unfoldable pub writes : List ℕ → Bool
 writes bytes = leb 1 (length bytes) && leb (length bytes) 65
 
 abbrev pub fits : Shape → List ℕ → Bool
-fits S.Unknown bytes = false
 fits S.Empty bytes = eqb (length bytes) 0
 fits (S.Bytes n) bytes = eqb (length bytes) n
 fits (S.Below bound) bytes = below bound bytes
@@ -62,5 +61,10 @@ fits S.Config bytes = is_config bytes
 fits S.Read bytes = reads bytes
 fits S.Write bytes = writes bytes
 
+-- by what a tag's value is; no value is right for a tag that no call has
+abbrev pub fits_any : Option Shape → List ℕ → Bool
+fits_any None bytes = false
+fits_any (Some shape) bytes = fits shape bytes
+
 unfoldable pub lawful : ℕ → List ℕ → Bool
-lawful tag bytes = fits (shape_of tag) bytes
+lawful tag bytes = fits_any (shape_of tag) bytes

@@ -5,7 +5,7 @@ ghost use Rattle.std.specs.Prelude.{◌≡◌, length, drop};
 ghost use Rattle.calls.specs.Shapes.{shape_of, below, reads, fits, lawful};
 ghost use Rattle.calls.specs.Heads.{field_at, as_field, end_from, heading_of, as_head};
 
-use job::{Device, DeviceAnswer};
+use job::Device;
 use refusals::Error;
 
 // Where the first call field stands, after field 20.
@@ -23,27 +23,14 @@ pub struct Field {
 }
 
 #[derive(Clone, Copy)]
-pub enum FieldAnswer {
-    Found(Field),
-    Refused(Error),
-}
-
-#[derive(Clone, Copy)]
 pub struct Heading {
     pub device: Device,
     pub tape_at: usize,
 }
 
-#[derive(Clone, Copy)]
-pub enum HeadAnswer {
-    Wanted(Heading),
-    Refused(Error),
-}
-
-// What a call's value is; Unknown where no call has the tag.
+// What a call's value is.
 #[derive(Clone, Copy)]
 pub enum Shape {
-    Unknown,
     Empty,
     Bytes(u8), // so many
     Below(u8), // one, below this
@@ -80,36 +67,25 @@ const SHAPES: [Shape; 24] = [
     Shape::Empty, // 38 spread
 ];
 
-fn shape_of(tag: u8) -> Shape
+fn shape_of(tag: u8) -> Option<Shape>
     ensures { result ≡ shape_of tag }
 {
-    if tag < 0x21 {
-        return Shape::Unknown;
-    }
-    if 0x38 < tag {
-        return Shape::Unknown;
-    }
-    SHAPES[(tag - 0x21) as usize]
+    let place = tag.checked_sub(0x21)?;
+    SHAPES.get(place as usize).copied()
 }
 
 #[tactic(auto, unfolding(crate::specs::Shapes::below))]
 fn is_below(value: &[u8], bound: u8) -> bool
     ensures { result ≡ below bound value.now }
 {
-    if value.len() != 1 {
-        return false;
-    }
-    value[0] < bound
+    value.len() == 1 && value[0] < bound
 }
 
 #[tactic(auto, unfolding(crate::specs::Shapes::reads))]
 fn is_read(value: &[u8]) -> bool
     ensures { result ≡ reads value.now }
 {
-    if value.len() != 3 {
-        return false;
-    }
-    numbers::be_u16(value[1], value[2]) <= 512
+    value.len() == 3 && numbers::be_u16(value[1], value[2]) <= 512
 }
 
 #[tactic(auto, unfolding(crate::specs::Shapes::writes))]
@@ -118,7 +94,6 @@ fn fits(shape: Shape, value: &[u8]) -> bool
 {
     let n = value.len();
     match shape {
-        Shape::Unknown => false,
         Shape::Empty => n == 0,
         Shape::Bytes(count) => n == count as usize,
         Shape::Below(bound) => is_below(value, bound),
@@ -133,66 +108,55 @@ fn fits(shape: Shape, value: &[u8]) -> bool
 pub fn is_lawful(tag: u8, value: &[u8]) -> bool
     ensures { result ≡ lawful tag value.now }
 {
-    fits(shape_of(tag), value)
+    match shape_of(tag) {
+        Some(shape) => fits(shape, value),
+        None => false,
+    }
 }
 
 // The field at `at`, or 15 where it is cut short.
-pub fn field_at(input: &[u8], at: usize) -> FieldAnswer
+pub fn field_at(input: &[u8], at: usize) -> Result<Field, Error>
     ensures { as_field result ≡ field_at at (drop at input.now) }
 {
-    if input.len() <= at {
-        return FieldAnswer::Refused(Error::BadTape);
+    let Some([tag, high, low, rest @ ..]) = input.get(at..) else {
+        return Err(Error::BadTape);
+    };
+    let len = numbers::be_u16(*high, *low) as usize;
+    if rest.len() < len {
+        return Err(Error::BadTape);
     }
-    if input.len() - at < 3 {
-        return FieldAnswer::Refused(Error::BadTape);
-    }
-    let len = numbers::be_u16(input[at + 1], input[at + 2]) as usize;
-    if input.len() - at - 3 < len {
-        return FieldAnswer::Refused(Error::BadTape);
-    }
-    FieldAnswer::Found(Field {
-        tag: input[at],
+    Ok(Field {
+        tag: *tag,
         start: at + 3,
         len,
     })
 }
 
 // The field that ends the calls, each of which is lawful; or 15.
-fn end_of_calls(input: &[u8]) -> FieldAnswer
+fn end_of_calls(input: &[u8]) -> Result<Field, Error>
     ensures { as_field result ≡ end_from (length input.now) 7 (drop 7 input.now) }
 {
     let mut at = CALLS_AT;
-    while at < input.len() {
-        let found = field_at(input, at);
-        let FieldAnswer::Found(field) = found else {
-            return FieldAnswer::Refused(Error::BadTape);
-        };
-        let tag = field.tag;
-        let start = field.start;
-        let len = field.len;
-        if (tag == END) & (len == 0) {
-            return found;
+    loop {
+        let field = field_at(input, at)?;
+        if (field.tag == END) & (field.len == 0) {
+            return Ok(field);
         }
-        let end = start + len;
-        if !is_lawful(tag, &input[start..end]) {
-            return FieldAnswer::Refused(Error::BadTape);
+        let end = field.start + field.len;
+        if !is_lawful(field.tag, &input[field.start..end]) {
+            return Err(Error::BadTape);
         }
         at = end;
     }
-    FieldAnswer::Refused(Error::BadTape)
 }
 
 // The head that bytes begin with, or 15.
-pub fn head(input: &[u8]) -> HeadAnswer
+pub fn head(input: &[u8]) -> Result<Heading, Error>
     ensures { as_head result ≡ heading_of input.now }
 {
-    let DeviceAnswer::Wanted(device) = job::parse_device(input) else {
-        return HeadAnswer::Refused(Error::BadTape);
-    };
-    let FieldAnswer::Found(end) = end_of_calls(input) else {
-        return HeadAnswer::Refused(Error::BadTape);
-    };
-    HeadAnswer::Wanted(Heading {
+    let device = job::parse_device(input)?;
+    let end = end_of_calls(input)?;
+    Ok(Heading {
         device,
         tape_at: end.start,
     })

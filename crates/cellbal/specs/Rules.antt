@@ -1,11 +1,10 @@
 -- The rules of a set of inputs that are to be balanced together, and their refusals, in order: 22, 23, 24.
 -- Assumes nothing.
-use Rattle.std.specs.Prelude.{ℕ, Bool, false, ◌&&◌, ◌||◌, List, [], ◌∷◌, ltb}
+use Rattle.std.specs.Prelude.{ℕ, Bool, false, ◌&&◌, ◌||◌, List, [], ◌∷◌, ltb, Result}
 use Rattle.std.specs.Int.Count.{ones}
-use Rattle.refusals.specs.Refusal.{Answer, value, refused, refused_if, as_refusal}
+use Rattle.refusals.specs.Refusal.{Answer, value, refused_if, as_answer}
+use Rattle.refusals.specs.declared.Error.{Error}
 use Rattle.cellbal.specs.Sets.{is_on, named, blocks}
-use Rattle.cellbal.specs.declared.Judged.{Judged}
-use Rattle.cellbal.specs.declared.Judged.TheVariants as J
 
 abbrev pub one_of : {A : Type 0} → List A → (A → Bool) → Bool
 one_of [] test = false
@@ -36,6 +35,5 @@ allowed x set limit =
     refused_if (too_many limit set) 24 (value tt)))
 
 -- as the code answers
-abbrev pub as_judged : Judged → Answer (Unit {0})
-as_judged J.Allowed = value tt
-as_judged (J.Refused e) = refused (as_refusal e)
+abbrev pub as_judged : Result (Unit {0}) Error → Answer (Unit {0})
+as_judged = as_answer (λ _. tt)

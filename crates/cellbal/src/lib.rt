@@ -2,45 +2,25 @@
 #![tactic(auto)]
 
 ghost use Rattle.std.specs.Prelude.{◌≡◌};
-ghost use Rattle.refusals.specs.Refusal.{as_refusal, refusal_in};
 ghost use Rattle.cellbal.specs.Rules.{not_on_device, neighbours, too_many, allowed, as_judged};
 ghost use Rattle.cellbal.specs.Registers.{register_count, three_for, set_of};
 
 use refusals::Error;
 
-#[derive(Clone, Copy)]
-pub enum Judged {
-    Allowed,
-    Refused(Error),
-}
-
-impl Judged {
-    // Asked where it refuses.
-    pub fn refusal(self) -> Error
-        ensures { as_refusal result ≡ refusal_in (as_judged self) }
-    {
-        match self {
-            Judged::Allowed => Error::BadDevice,
-            Judged::Refused(e) => e,
-        }
-    }
-}
-
 // Whether a device of x inputs may have the set, on a board with this limit: 22, 23, 24.
 #[tactic(auto, unfolding(crate::specs::Rules::allowed))]
-pub fn judge(x: u8, set: u16, limit: u8) -> Judged
+pub fn judge(x: u8, set: u16, limit: u8) -> Result<(), Error>
     ensures { as_judged result ≡ allowed x set limit }
 {
     if not_on_device(x, set) {
-        return Judged::Refused(Error::NotOnDevice);
+        Err(Error::NotOnDevice)
+    } else if neighbours(set) {
+        Err(Error::Neighbours)
+    } else if too_many(limit, set) {
+        Err(Error::TooManyCells)
+    } else {
+        Ok(())
     }
-    if neighbours(set) {
-        return Judged::Refused(Error::Neighbours);
-    }
-    if too_many(limit, set) {
-        return Judged::Refused(Error::TooManyCells);
-    }
-    Judged::Allowed
 }
 
 // Bits x and up name inputs over x.
@@ -48,10 +28,7 @@ pub fn judge(x: u8, set: u16, limit: u8) -> Judged
 fn not_on_device(x: u8, set: u16) -> bool
     ensures { result ≡ not_on_device x set }
 {
-    if 16 <= x {
-        return false;
-    }
-    set >> x != 0
+    x < 16 && set >> x != 0
 }
 
 // Each input beside the next, but the fifth of a block.
@@ -66,7 +43,7 @@ fn neighbours(set: u16) -> bool
 fn too_many(limit: u8, set: u16) -> bool
     ensures { result ≡ too_many limit set }
 {
-    (limit as u32) < u16::count_ones(set)
+    (limit as u32) < set.count_ones()
 }
 
 // How many registers a device of x inputs has.

@@ -29,7 +29,7 @@ use Rattle.job.specs.declared.Device.{Device}
 use Rattle.job.specs.declared.Job.{Job}
 use Rattle.job.proofs.Codes.{scd_coded, ocd_coded, uv_coded, ov_coded}
 use Rattle.job.proofs.Places.{from, from_drop, byte_of}
-use Rattle.job.proofs.Tested.{config_tested}
+use Rattle.job.proofs.Tested.{listed}
 
 -- ---- written out, then read
 check_read : (b : Bool) → eqb (zero_or_one b) 1 ≡ b
@@ -144,8 +144,9 @@ module _ (v : List ℕ) (small : (i : ℕ) → i < 24 → byte_at v i < 256) whe
   config_written : is_config v ≡ true → v ≡ config_value (config_at v 0)
   unfolding is_config
   config_written e =
-      let codes = config_tested v e in
-      all_of v 24 (eqb-true _ _ ((and-eq-true_iff _ _).0 e).0)
+      let t = (and-eq-true_iff _ _).0 e in
+      let codes = listed v 0 t.1 in
+      all_of v 24 (eqb-true _ _ t.0)
       ∙ rw (
         four_at 0 (omega arith),
         four_at 4 (omega arith),
@@ -154,10 +155,10 @@ module _ (v : List ℕ) (small : (i : ℕ) → i < 24 → byte_at v i < 256) whe
         signed_at_is 16 (omega arith),
         four_at 12 (omega arith),
         four_at 16 (omega arith),
-        scd_coded.has (byte_at v 20) codes.1,
-        ocd_coded.has (byte_at v 21) codes.2,
-        uv_coded.has (byte_at v 22) codes.3,
-        ov_coded.has (byte_at v 23) codes.4,
+        scd_coded.has (byte_at v 20) codes.0,
+        ocd_coded.has (byte_at v 21) codes.1,
+        uv_coded.has (byte_at v 22) codes.2,
+        ov_coded.has (byte_at v 23) codes.3,
       )
 
 -- a field that was accepted

@@ -8,12 +8,12 @@ use lib.Dec.{T, ltb, eqb}
 use denote.Enum.Declared.{Record}
 use Rattle.laws.proofs.Tests.{all_below, same_below}
 use Rattle.laws.proofs.Variants.{variants, by_variants}
-use Rattle.protection.specs.Delays.{scd_code, ocd_code, uv_code, ov_code}
+use Rattle.protection.specs.Delays.{scd_code, ocd_code, uv_code, ov_code, scd_delays, ocd_delays, uv_delays, ov_delays}
 use Rattle.protection.specs.contracts.delays.SCDDelay as scd
 use Rattle.protection.specs.contracts.delays.OCDDelay as ocd
 use Rattle.protection.specs.contracts.delays.UVDelay as uv
 use Rattle.protection.specs.contracts.delays.OVDelay as ov
-use Rattle.job.specs.Delays.{scd_delays, ocd_delays, uv_delays, ov_delays, scd_at, ocd_at, uv_at, ov_at}
+use Rattle.job.specs.Delays.{scd_at, ocd_at, uv_at, ov_at}
 
 -- codes from 0 up to a count, and what each names
 pub record Coded {D : Type 0} (code : D → ℕ) (at : ℕ → D) (count : ℕ) : Type 0 where

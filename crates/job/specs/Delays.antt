@@ -1,6 +1,7 @@
--- The delays of each list, by their codes from 0.
+-- The delay that a code names, in each list of them.
 -- Assumes nothing.
-use Rattle.std.specs.Prelude.{ℕ, List, [], ◌∷◌, get_or}
+use Rattle.std.specs.Prelude.{ℕ, get_or}
+use Rattle.protection.specs.Delays.{scd_delays, ocd_delays, uv_delays, ov_delays}
 use Rattle.protection.specs.declared.delays.SCDDelay.{SCDDelay}
 use Rattle.protection.specs.declared.delays.SCDDelay.TheVariants as S
 use Rattle.protection.specs.declared.delays.OCDDelay.{OCDDelay}
@@ -10,19 +11,7 @@ use Rattle.protection.specs.declared.delays.UVDelay.TheVariants as U
 use Rattle.protection.specs.declared.delays.OVDelay.{OVDelay}
 use Rattle.protection.specs.declared.delays.OVDelay.TheVariants as W
 
-abbrev pub scd_delays : List SCDDelay
-scd_delays = S._70uS ∷ S._100uS ∷ S._200uS ∷ S._400uS ∷ []
-
-abbrev pub ocd_delays : List OCDDelay
-ocd_delays = O._8ms ∷ O._20ms ∷ O._40ms ∷ O._80ms ∷ O._160ms ∷ O._320ms ∷ O._640ms ∷ O._1280ms ∷ []
-
-abbrev pub uv_delays : List UVDelay
-uv_delays = U._1s ∷ U._4s ∷ U._8s ∷ U._16s ∷ []
-
-abbrev pub ov_delays : List OVDelay
-ov_delays = W._1s ∷ W._2s ∷ W._4s ∷ W._8s ∷ []
-
--- the delay that a code names; asked of codes in the list only
+-- asked of codes in the list only
 abbrev pub scd_at : ℕ → SCDDelay
 scd_at code = get_or scd_delays code S._70uS
 

@@ -1,9 +1,10 @@
 -- What private contracts cite: what the code tests, by the places of bytes. Nobody has to believe it.
 -- Assumes nothing.
-use Rattle.std.specs.Prelude.{ℕ, ◌+◌, ◌≤◌, ◌<◌, Bool, ◌&&◌, List, length, eqb, leb, ltb}
+use Rattle.std.specs.Prelude.{ℕ, ◌+◌, Bool, cond, ◌&&◌, List, [], length, eqb, leb, ltb}
 use Rattle.numbers.specs.Numbers.{word}
-use Rattle.job.specs.Delays.{scd_delays, ocd_delays, uv_delays, ov_delays}
-use Rattle.job.specs.Jobs.{byte_at, codes_at}
+use Rattle.refusals.specs.Refusal.{Answer, value, refused, no}
+use Rattle.plan.specs.declared.Config.{Config}
+use Rattle.job.specs.Jobs.{byte_at, codes_at, config_at}
 
 -- at byte i a field's tag and length
 abbrev pub says_field : List ℕ → ℕ → ℕ → ℕ → Bool
@@ -17,11 +18,6 @@ says_device bytes = leb 7 (length bytes) && says_field bytes 0 0x20 4 && ltb (by
 unfoldable pub says_job : List ℕ → Bool
 says_job bytes = leb 34 (length bytes) && says_device bytes && says_field bytes 7 0x21 24 && codes_at bytes 10
 
--- a configuration from byte i on is whole, and each of its codes in its list
-abbrev pub ListedAt : List ℕ → ℕ → Type 0
-ListedAt bytes i =
-    (i + 24 ≤ length bytes)
-    × (byte_at bytes (i + 20) < length scd_delays)
-    × (byte_at bytes (i + 21) < length ocd_delays)
-    × (byte_at bytes (i + 22) < length uv_delays)
-    × (byte_at bytes (i + 23) < length ov_delays)
+-- the configuration from byte i on, whose codes are to be in their lists
+unfoldable pub listed_config : List ℕ → ℕ → Answer Config
+listed_config bytes i = cond (codes_at bytes i) (value (config_at bytes i)) (refused (no 15 []))

@@ -1,21 +1,17 @@
 -- The job that bytes begin with: field 20, the device, field 21, the configuration, and then, from byte 34 on, the tape. Anything else is 15.
 -- Assumes nothing.
-use Rattle.std.specs.Prelude.{ℕ, ◌+◌, Bool, cond, ◌&&◌, List, [], ℤ, length, get_or, eqb, ltb}
+use Rattle.std.specs.Prelude.{ℕ, ◌+◌, Bool, cond, ◌&&◌, List, [], ℤ, length, get_or, eqb, ltb, Result}
 use Rattle.std.proofs.Math.Option.{Option, none, some}
 use Rattle.numbers.specs.Numbers.{word4, as_i32}
 use Rattle.fields.specs.Fields.{Field, unfield}
-use Rattle.refusals.specs.Refusal.{Answer, value, refused, no, as_refusal}
+use Rattle.refusals.specs.Refusal.{Answer, value, refused, no, as_answer}
+use Rattle.refusals.specs.declared.Error.{Error}
 use Rattle.plan.specs.Order.{◌and_then◌}
 use Rattle.plan.specs.declared.Config.{Config}
-use Rattle.job.specs.Delays.{scd_delays, ocd_delays, uv_delays, ov_delays, scd_at, ocd_at, uv_at, ov_at}
+use Rattle.protection.specs.Delays.{scd_delays, ocd_delays, uv_delays, ov_delays}
+use Rattle.job.specs.Delays.{scd_at, ocd_at, uv_at, ov_at}
 use Rattle.job.specs.declared.Device.{Device}
 use Rattle.job.specs.declared.Job.{Job}
-use Rattle.job.specs.declared.JobAnswer.{JobAnswer}
-use Rattle.job.specs.declared.JobAnswer.TheVariants as J
-use Rattle.job.specs.declared.DeviceAnswer.{DeviceAnswer}
-use Rattle.job.specs.declared.DeviceAnswer.TheVariants as D
-use Rattle.job.specs.declared.ConfigAnswer.{ConfigAnswer}
-use Rattle.job.specs.declared.ConfigAnswer.TheVariants as C
 
 abbrev pub byte_at : List ℕ → ℕ → ℕ
 byte_at bytes i = get_or bytes i 0
@@ -95,14 +91,11 @@ abbrev pub config_of : List ℕ → Config
 config_of job = config_at job 10
 
 -- ---- as the code answers
-abbrev pub as_device : DeviceAnswer → Answer Device
-as_device (D.Wanted device) = value device
-as_device (D.Refused e) = refused (as_refusal e)
+abbrev pub as_device : Result Device Error → Answer Device
+as_device = as_answer (λ device. device)
 
-abbrev pub as_config : ConfigAnswer → Answer Config
-as_config (C.Wanted config) = value config
-as_config (C.Refused e) = refused (as_refusal e)
+abbrev pub as_config : Result Config Error → Answer Config
+as_config = as_answer (λ config. config)
 
-abbrev pub as_job : JobAnswer → Answer Job
-as_job (J.Wanted job) = value job
-as_job (J.Refused e) = refused (as_refusal e)
+abbrev pub as_job : Result Job Error → Answer Job
+as_job = as_answer (λ job. job)

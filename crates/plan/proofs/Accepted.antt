@@ -2,7 +2,7 @@
 -- Assumes nothing.
 use mathlib.Core.Path.{◌≡◌, refl, ◌∙◌}
 use mathlib.Core.Bool.{Bool, true, false}
-use mathlib.Core.List.{[], ◌∷◌}
+use mathlib.Core.List.{List, [], ◌∷◌, ◌++◌}
 use Prim.Native.Nat.{ℕ, ◌*◌}
 use lib.Dec.{eqb}
 use lib.IntN.{ℤ}
@@ -18,7 +18,6 @@ use Rattle.plan.specs.Plan.{Planned, values_for, set_for, plan_for}
 use Rattle.plan.specs.Registers.{protect_of, protect_for}
 use Rattle.plan.specs.Trips.{trip_code_for}
 use Rattle.plan.specs.declared.Config.{Config}
-use Rattle.plan.specs.declared.six_bytes.Protect.{Protect}
 use Rattle.plan.proofs.After.{choice}
 use Rattle.refusals.proofs.Values.{refused_not, same_value}
 
@@ -41,12 +40,12 @@ code_is gain offset asked {n} e = by_test (eqb gain 0) e
     by_test false e = same_value e
 
 -- the three PROTECT bytes by the range used
-abbrev pub protect_in : Config → ℕ → ℕ → OCDSCDRange → Protect
+abbrev pub protect_in : Config → ℕ → ℕ → OCDSCDRange → List ℕ
 protect_in config scd ocd range =
     protect_of config (of_range range 0 1 * 128) (code_in (of_range range scd_lower scd_upper) scd) (code_in (of_range range ocd_lower ocd_upper) ocd)
 
 protect_is :
-    (config : Config) (scd ocd : ℕ) (range : OCDSCDRange) {p : Protect}
+    (config : Config) (scd ocd : ℕ) (range : OCDSCDRange) {p : List ℕ}
     → protect_for config scd ocd range ≡ value p
     → protect_in config scd ocd range ≡ p
 unfolding protect_for code_for ◌and_then◌
@@ -57,12 +56,11 @@ protect_is config scd ocd R.Unknown e = refused_not e
 -- an accepted plan, by the range used
 abbrev pub planned_in : ℕ → ℤ → Config → ℕ → ℕ → OCDSCDRange → Planned
 planned_in gain offset config scd ocd range =
-    let protect = protect_in config scd ocd range in
     let ov_code = trip_code (reading_of gain offset config.ov_threshold.0) in
     let uv_code = trip_code (reading_of gain offset config.uv_threshold.0) in
     record {
       values = values_for gain offset config.shunt.0 scd ocd range ov_code uv_code;
-      regs = protect.0 ∷ protect.1 ∷ protect.2 ∷ ov_code ∷ uv_code ∷ 0x19 ∷ [];
+      regs = protect_in config scd ocd range ++ (ov_code ∷ uv_code ∷ 0x19 ∷ []);
     }
 
 pub accepted :
@@ -86,7 +84,7 @@ accepted gain offset config scd ocd {p} e =
         (λ i.
             record {
               values = values_for gain offset config.shunt.0 scd ocd range.0 (ov-path i) (uv-path i);
-              regs = (protect-path i).0 ∷ (protect-path i).1 ∷ (protect-path i).2 ∷ ov-path i ∷ uv-path i ∷ 0x19 ∷ [];
+              regs = protect-path i ++ (ov-path i ∷ uv-path i ∷ 0x19 ∷ []);
             })
             ∙ same_value protect.1.1,
       ),

@@ -1,27 +1,24 @@
--- Two outcomes that meet one promise are one: a choice of steps is told by its millivolts or its refusal, a plan by its values or its refusal, and
--- its bytes.
+-- Two outcomes that meet one promise are one: a choice of steps is told by its millivolts or its refusal, a plan by its values and bytes or its
+-- refusal.
 -- Assumes nothing.
-use mathlib.Core.Path.{◌≡◌, refl, ap}
-use Rattle.laws.proofs.Inverse.{one_to_one}
-use Rattle.refusals.proofs.OneToOne.{answer_back, undone}
+use mathlib.Core.Path.{◌≡◌, refl}
+use Rattle.std.specs.Prelude.{Result}
+use Rattle.refusals.specs.declared.Error.{Error}
+use Rattle.refusals.proofs.OneToOne as told
 use Rattle.protection.proofs.Agree.{scd_named_lem, ocd_named_lem}
 use Rattle.protection.specs.Scd as scd
 use Rattle.protection.specs.Ocd as ocd
-use Rattle.plan.specs.Plan.{Values, WithBytes, as_init, as_plan}
-use Rattle.plan.specs.Steps.{InMv, as_steps}
+use Rattle.plan.specs.Plan.{Values, Planned, as_values, as_planned, as_init, as_plan}
+use Rattle.plan.specs.Steps.{InMv, in_mv, as_steps}
 use Rattle.plan.specs.declared.CalculatedValues.{CalculatedValues}
-use Rattle.plan.specs.declared.InitAnswer.{InitAnswer}
-use Rattle.plan.specs.declared.InitAnswer.TheVariants as I
 use Rattle.plan.specs.declared.Plan.{Plan}
-use Rattle.plan.specs.declared.StepsAnswer.{StepsAnswer}
-use Rattle.plan.specs.declared.StepsAnswer.TheVariants as S
+use Rattle.plan.specs.declared.Steps.{Steps}
 
-abbrev chosen : InMv → StepsAnswer
-chosen mv = S.Chosen (record { scd = scd.named mv.scd; ocd = ocd.named mv.ocd })
+abbrev chosen : InMv → Steps
+chosen mv = record { scd = scd.named mv.scd; ocd = ocd.named mv.ocd }
 
-steps_undone : (a : StepsAnswer) → answer_back chosen S.Refused (as_steps a) ≡ a
-steps_undone (S.Chosen steps) = λ i. S.Chosen (record { scd = scd_named_lem steps.scd i; ocd = ocd_named_lem steps.ocd i })
-steps_undone (S.Refused e) = ap S.Refused (undone e)
+chosen_undone : (steps : Steps) → chosen (in_mv steps) ≡ steps
+chosen_undone steps = λ i. record { scd = scd_named_lem steps.scd i; ocd = ocd_named_lem steps.ocd i }
 
 -- the values as the code has them
 abbrev pub calculated : Values → CalculatedValues
@@ -33,24 +30,14 @@ calculated v = record {
   ov_threshold = record { 0 = v.ov };
 }
 
-abbrev ready : Values → InitAnswer
-ready v = I.Ready (calculated v)
+abbrev plan_back : Planned → Plan
+plan_back p = record { values = calculated p.values; regs = p.regs }
 
-answer_undone : (a : InitAnswer) → answer_back ready I.Refused (as_init a) ≡ a
-answer_undone (I.Ready values) = refl
-answer_undone (I.Refused e) = ap I.Refused (undone e)
+pub steps_agree : (a b : Result Steps Error) → as_steps a ≡ as_steps b → a ≡ b
+steps_agree = told.answer_agree in_mv chosen chosen_undone
 
-abbrev plan_back : WithBytes → Plan
-plan_back o = record { answer = answer_back ready I.Refused o.answer; regs = o.regs }
+pub answer_agree : (a b : Result CalculatedValues Error) → as_init a ≡ as_init b → a ≡ b
+answer_agree = told.answer_agree as_values calculated (λ _. refl)
 
-plan_undone : (p : Plan) → plan_back (as_plan p) ≡ p
-plan_undone p = λ i. record { answer = answer_undone p.answer i; regs = p.regs }
-
-pub steps_agree : (a b : StepsAnswer) → as_steps a ≡ as_steps b → a ≡ b
-steps_agree = one_to_one as_steps (answer_back chosen S.Refused) steps_undone
-
-pub answer_agree : (a b : InitAnswer) → as_init a ≡ as_init b → a ≡ b
-answer_agree = one_to_one as_init (answer_back ready I.Refused) answer_undone
-
-pub plan_agree : (a b : Plan) → as_plan a ≡ as_plan b → a ≡ b
-plan_agree = one_to_one as_plan plan_back plan_undone
+pub plan_agree : (a b : Result Plan Error) → as_plan a ≡ as_plan b → a ≡ b
+plan_agree = told.answer_agree as_planned plan_back (λ _. refl)

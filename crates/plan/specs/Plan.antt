@@ -1,7 +1,8 @@
 -- What `init` writes and reports for a configuration: the refusals in their order, the six bytes for 06 to 0B, and the values reported.
 -- Assumes nothing.
-use Rattle.std.specs.Prelude.{ℕ, ◌*◌, ◌/◌, List, [], ◌∷◌, ℤ}
-use Rattle.refusals.specs.Refusal.{Answer, value, refused, as_refusal}
+use Rattle.std.specs.Prelude.{ℕ, ◌*◌, ◌/◌, List, [], ◌∷◌, ◌++◌, ℤ, Result}
+use Rattle.refusals.specs.Refusal.{Answer, value, as_answer}
+use Rattle.refusals.specs.declared.Error.{Error}
 use Rattle.protection.specs.Ranges.{range_for, for_both}
 use Rattle.protection.specs.Steps.{scd_lower, scd_upper, ocd_lower, ocd_upper}
 use Rattle.protection.specs.declared.range.OCDSCDRange.{OCDSCDRange}
@@ -13,8 +14,6 @@ use Rattle.plan.specs.Trips.{trip_code_for, within_for}
 use Rattle.plan.specs.Registers.{protect_for}
 use Rattle.plan.specs.declared.Config.{Config}
 use Rattle.plan.specs.declared.CalculatedValues.{CalculatedValues}
-use Rattle.plan.specs.declared.InitAnswer.{InitAnswer}
-use Rattle.plan.specs.declared.InitAnswer.TheVariants as I
 use Rattle.plan.specs.declared.Plan.{Plan}
 
 -- the range used, the two currents in A, the two voltages in mV
@@ -46,7 +45,7 @@ set_for gain offset config scd ocd range ov_code uv_code =
     value
     (record {
       values = values_for gain offset config.shunt.0 scd ocd range ov_code uv_code;
-      regs = protect.0 ∷ protect.1 ∷ protect.2 ∷ ov_code ∷ uv_code ∷ 0x19 ∷ [];
+      regs = protect ++ (ov_code ∷ uv_code ∷ 0x19 ∷ []);
     })
 
 -- 12, 9, 6, 8, 7, and else the setting, whose range is never Unknown; scd and ocd are the steps in mV
@@ -59,16 +58,6 @@ plan_for gain offset config scd ocd =
     within_for gain offset config.ov_threshold.0 config.uv_threshold.0 and_then λ _.
     set_for gain offset config scd ocd range ov_code uv_code
 
--- an answer, and the bytes beside it
-pub record WithBytes : Type 0 where
-  pub answer : Answer Values
-  pub regs : List ℕ
-
--- a refusal has six zeros beside it
-abbrev pub with_bytes : Answer Planned → WithBytes
-with_bytes (value planned) = record { answer = value planned.values; regs = planned.regs }
-with_bytes (refused r) = record { answer = refused r; regs = 0 ∷ 0 ∷ 0 ∷ 0 ∷ 0 ∷ 0 ∷ [] }
-
 abbrev pub as_values : CalculatedValues → Values
 as_values v = record {
   range = v.ocdscd_range_used;
@@ -78,9 +67,11 @@ as_values v = record {
   ov = v.ov_threshold.0;
 }
 
-abbrev pub as_init : InitAnswer → Answer Values
-as_init (I.Ready values) = value (as_values values)
-as_init (I.Refused e) = refused (as_refusal e)
+abbrev pub as_init : Result CalculatedValues Error → Answer Values
+as_init = as_answer as_values
 
-abbrev pub as_plan : Plan → WithBytes
-as_plan p = record { answer = as_init p.answer; regs = p.regs }
+abbrev pub as_planned : Plan → Planned
+as_planned p = record { values = as_values p.values; regs = p.regs }
+
+abbrev pub as_plan : Result Plan Error → Answer Planned
+as_plan = as_answer as_planned

@@ -1,15 +1,14 @@
 -- The two steps for a configuration, in millivolts across the shunt, and the code's answer in the same terms.
 -- Assumes nothing.
-use Rattle.std.specs.Prelude.{ℕ, ◌*◌, ◌/◌, Bool, ◌||◌, ◌++◌, eqb, ltb}
-use Rattle.refusals.specs.Refusal.{Answer, value, refused, refused_if, as_refusal}
+use Rattle.std.specs.Prelude.{ℕ, ◌*◌, ◌/◌, Bool, ◌||◌, ◌++◌, eqb, ltb, Result}
+use Rattle.refusals.specs.Refusal.{Answer, value, refused_if, as_answer}
+use Rattle.refusals.specs.declared.Error.{Error}
 use Rattle.protection.specs.Steps.{scd_lower, scd_upper, ocd_lower, ocd_upper, step, step_for}
 use Rattle.protection.specs.Scd as scd
 use Rattle.protection.specs.Ocd as ocd
 use Rattle.plan.specs.Order.{◌and_then◌}
 use Rattle.plan.specs.declared.Config.{Config}
 use Rattle.plan.specs.declared.Steps.{Steps}
-use Rattle.plan.specs.declared.StepsAnswer.{StepsAnswer}
-use Rattle.plan.specs.declared.StepsAnswer.TheVariants as S
 
 -- 0, or over 2,147,483,647 µΩ
 abbrev pub bad_shunt : ℕ → Bool
@@ -40,6 +39,5 @@ ocd_step config = step (ocd_lower ++ ocd_upper) (config.ocd_threshold.0 * config
 abbrev pub in_mv : Steps → InMv
 in_mv steps = record { scd = scd.mv_of steps.scd; ocd = ocd.mv_of steps.ocd }
 
-abbrev pub as_steps : StepsAnswer → Answer InMv
-as_steps (S.Chosen steps) = value (in_mv steps)
-as_steps (S.Refused e) = refused (as_refusal e)
+abbrev pub as_steps : Result Steps Error → Answer InMv
+as_steps = as_answer in_mv

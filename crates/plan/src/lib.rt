@@ -8,7 +8,6 @@ use protection::delays::{OCDDelay, OVDelay, SCDDelay, UVDelay};
 use protection::ocd::OCDThreshold;
 use protection::range::OCDSCDRange;
 use protection::scd::SCDThreshold;
-use refusals::Error;
 use units::{Amperes, MicroOhms, MilliVolts};
 
 pub mod answer;
@@ -44,23 +43,10 @@ pub struct Steps {
     pub ocd: OCDThreshold,
 }
 
-#[derive(Clone, Copy)]
-pub enum StepsAnswer {
-    Chosen(Steps),
-    Refused(Error),
-}
-
-// What setting up answers.
-#[derive(Clone, Copy)]
-pub enum InitAnswer {
-    Ready(CalculatedValues),
-    Refused(Error),
-}
-
-// The six bytes for registers 06 to 0B, zero where the plan is refused, and the values to report.
+// The values to report, and the six bytes for registers 06 to 0B.
 #[derive(Clone, Copy)]
 pub struct Plan {
-    pub answer: InitAnswer,
+    pub values: CalculatedValues,
     pub regs: [u8; 6],
 }
 
@@ -68,6 +54,5 @@ pub struct Plan {
 fn bad_shunt(shunt: MicroOhms) -> bool
     ensures { result ≡ bad_shunt shunt.0 }
 {
-    let microohms = shunt.0;
-    (microohms == 0) | (2147483647 < microohms)
+    (shunt.0 == 0) | (2147483647 < shunt.0)
 }

@@ -3,5 +3,4 @@ pub mod Agree
 pub mod DelayNames
 pub mod InRange
 pub mod Ladder
-pub mod Rows
 pub mod Shared

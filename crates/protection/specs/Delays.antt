@@ -1,6 +1,9 @@
--- The delays: each one's code, the code's place in its register, the times that the datasheet gives the codes, and those that the names say.
+-- The delays: each one's code, the code's place in its register, the times that the datasheet gives the codes, and those that the names say; and the
+-- delay of a code.
 -- Assumes nothing.
-use Rattle.std.specs.Prelude.{ℕ, ◌*◌, List, [], ◌∷◌, get_or}
+use Rattle.std.specs.Prelude.{ℕ, ◌*◌, ◌≡◌, List, [], ◌∷◌, length, get_or, leb, Result}
+use Rattle.refusals.specs.Refusal.{Answer, value, refused_if, as_answer}
+use Rattle.refusals.specs.declared.Error.{Error}
 use Rattle.protection.specs.declared.delays.SCDDelay.{SCDDelay}
 use Rattle.protection.specs.declared.delays.SCDDelay.TheVariants as S
 use Rattle.protection.specs.declared.delays.OCDDelay.{OCDDelay}
@@ -109,3 +112,36 @@ ov_named W._1s = 1
 ov_named W._2s = 2
 ov_named W._4s = 4
 ov_named W._8s = 8
+
+-- ---- the delays of each kind, by their codes from 0
+abbrev pub scd_delays : List SCDDelay
+scd_delays = S._70uS ∷ S._100uS ∷ S._200uS ∷ S._400uS ∷ []
+
+abbrev pub ocd_delays : List OCDDelay
+ocd_delays = O._8ms ∷ O._20ms ∷ O._40ms ∷ O._80ms ∷ O._160ms ∷ O._320ms ∷ O._640ms ∷ O._1280ms ∷ []
+
+abbrev pub uv_delays : List UVDelay
+uv_delays = U._1s ∷ U._4s ∷ U._8s ∷ U._16s ∷ []
+
+abbrev pub ov_delays : List OVDelay
+ov_delays = W._1s ∷ W._2s ∷ W._4s ∷ W._8s ∷ []
+
+-- the delay of a code, or 15 for a code past the list, whose first is `first`
+abbrev pub delay_for : {D : Type 0} → D → List D → ℕ → Answer D
+delay_for first delays code = refused_if (leb (length delays) code) 15 (value (get_or delays code first))
+
+-- as the code answers
+abbrev pub as_delay : {D : Type 0} → Result D Error → Answer D
+as_delay = as_answer (λ delay. delay)
+
+abbrev pub scd_for : ℕ → Result SCDDelay Error → Type 0
+scd_for code delay = as_delay delay ≡ delay_for S._70uS scd_delays code
+
+abbrev pub ocd_for : ℕ → Result OCDDelay Error → Type 0
+ocd_for code delay = as_delay delay ≡ delay_for O._8ms ocd_delays code
+
+abbrev pub uv_for : ℕ → Result UVDelay Error → Type 0
+uv_for code delay = as_delay delay ≡ delay_for U._1s uv_delays code
+
+abbrev pub ov_for : ℕ → Result OVDelay Error → Type 0
+ov_for code delay = as_delay delay ≡ delay_for W._1s ov_delays code

@@ -1,19 +1,27 @@
--- What private contracts cite: a row of the code's table of steps, a line of its ladder, and the millivolts across a shunt. Nobody has to believe
--- it.
+-- What private contracts cite: a step's codes, and a line of the code's ladder of steps. Nobody has to believe it.
 -- Assumes nothing.
-use Rattle.std.specs.Prelude.{ℕ, suc, ◌≤◌, cond, List, [], ◌∷◌, map, eqb}
-use Rattle.refusals.specs.Refusal.{Answer, value, refused, as_refusal}
-use Rattle.protection.specs.Ranges.{code_in}
+use Rattle.std.specs.Prelude.{ℕ, suc, ◌≤◌, cond, List, [], ◌∷◌, map, eqb, Option, Some, None, is_some, unwrap_or}
+use Rattle.refusals.specs.Refusal.{Answer}
+use Rattle.protection.specs.Ranges.{is_in, code_in, in_range, range_by}
 use Rattle.protection.specs.Scd as scd
 use Rattle.protection.specs.Ocd as ocd
-use Rattle.protection.specs.declared.Across.{Across}
-use Rattle.protection.specs.declared.Across.TheVariants as A
-use Rattle.protection.specs.declared.Row.{Row}
+use Rattle.protection.specs.declared.range.Codes.{Codes}
+use Rattle.protection.specs.declared.range.OCDSCDRange.{OCDSCDRange}
 use Rattle.protection.specs.declared.scd.SCDThreshold.{SCDThreshold}
 use Rattle.protection.specs.declared.ocd.OCDThreshold.{OCDThreshold}
 
-abbrev pub row_for : List ℕ → List ℕ → ℕ → Row
-row_for lower upper n = record { 0 = n; 1 = code_in lower n; 2 = code_in upper n }
+-- n's code in a range, of a range that has it
+abbrev pub place_in : List ℕ → ℕ → Option ℕ
+place_in xs n = cond (is_in n xs) (Some (code_in xs n)) None
+
+abbrev pub codes_for : List ℕ → List ℕ → ℕ → Codes
+codes_for lower upper n = record { lower = place_in lower n; upper = place_in upper n }
+
+abbrev pub range_of : Codes → OCDSCDRange
+range_of codes = range_by (is_some codes.lower) (is_some codes.upper)
+
+abbrev pub number_in : Codes → OCDSCDRange → Answer ℕ
+number_in codes range = in_range range (unwrap_or codes.lower 0) (unwrap_or codes.upper 0)
 
 -- a line of the ladder: the numbers that have one step
 pub record Line : Type 0 where
@@ -34,7 +42,3 @@ ocd_line t = line_of 0 (map ocd.mv_of ocd.thresholds) (ocd.mv_of t)
 
 abbrev pub On : Line → ℕ → Type 0
 On line n = (line.from ≤ n) × (n ≤ line.to)
-
-abbrev pub as_across : Across → Answer ℕ
-as_across (A.Mv n) = value n
-as_across (A.Refused e) = refused (as_refusal e)

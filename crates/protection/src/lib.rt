@@ -1,13 +1,13 @@
 // The chip's protection settings: the delays, and the steps at which a short circuit (SCD) and an overcurrent (OCD) trip.
 #![tactic(auto)]
 
-ghost use Rattle.std.specs.Prelude.{◌≡◌};
-ghost use Rattle.protection.specs.Answers.{as_code};
-ghost use Rattle.protection.specs.Inside.{as_across};
-ghost use Rattle.protection.specs.Ranges.{in_range};
-ghost use Rattle.protection.specs.Steps.{mv_across};
+ghost use Rattle.std.specs.Prelude.{◌≡◌, ℕ, List, ◌++◌};
+ghost use Rattle.protection.specs.Answers.{as_number, as_step};
+ghost use Rattle.protection.specs.Inside.{codes_for};
+ghost use Rattle.protection.specs.Ranges.{code_for, range_for};
+ghost use Rattle.protection.specs.Steps.{mv_across, step, step_for};
 
-use range::{Code, OCDSCDRange};
+use range::{Codes, OCDSCDRange};
 use refusals::Error;
 use units::{Amperes, MicroOhms};
 
@@ -16,34 +16,51 @@ pub mod ocd;
 pub mod range;
 pub mod scd;
 
-// A step: its millivolts, its code in the lower range and its code in the upper one, 0 where the range lacks it.
-#[derive(Drop)]
-struct Row(u8, u8, u8);
+// A kind of step: of a short circuit, or of an overcurrent.
+pub trait Threshold: Copy {
+    // A step's millivolts, and the steps that the datasheet publishes for each range.
+    ghost mv_of: { Self → ℕ };
 
-fn code_for(range: OCDSCDRange, row: Row) -> Code
-    ensures { as_code result ≡ in_range range row.1 row.2 }
-{
-    match range {
-        OCDSCDRange::Lower => Code::Bits(row.1),
-        OCDSCDRange::Upper => Code::Bits(row.2),
-        OCDSCDRange::Unknown => Code::Refused(Error::UnknownRange),
+    ghost lower: { List ℕ };
+
+    ghost upper: { List ℕ };
+
+    fn mv(self) -> u8
+        ensures { result ≡ mv_of self };
+
+    fn codes(self) -> Codes
+        ensures { result ≡ codes_for lower upper (mv_of self) };
+
+    fn from_mv(mv_threshold: u8) -> Self
+        ensures { mv_of result ≡ step (lower ++ upper) mv_threshold };
+
+    fn range(self) -> OCDSCDRange
+        ensures { result ≡ range_for lower upper (mv_of self) }
+    {
+        self.codes().range()
+    }
+
+    fn bits(self, range: OCDSCDRange) -> Result<u8, Error>
+        ensures { as_number result ≡ code_for lower upper range (mv_of self) }
+    {
+        self.codes().code_in(range)
+    }
+
+    fn from_current(threshold: Amperes, shunt: MicroOhms) -> Result<Self, Error>
+        ensures { as_step mv_of result ≡ step_for (lower ++ upper) threshold.0 shunt.0 }
+    {
+        Ok(Self::from_mv(mv_across(threshold, shunt)?))
     }
 }
 
 // The millivolts across the shunt.
-#[derive(Drop)]
-enum Across {
-    Mv(u8),
-    Refused(Error),
-}
-
-fn mv_across(threshold: Amperes, shunt: MicroOhms) -> Across
-    ensures { as_across result ≡ mv_across threshold.0 shunt.0 }
+fn mv_across(threshold: Amperes, shunt: MicroOhms) -> Result<u8, Error>
+    ensures { as_number result ≡ mv_across threshold.0 shunt.0 }
 {
     let product = (threshold.0 as u64) * (shunt.0 as u64);
     if product < 256_000 {
-        Across::Mv((product / 1000) as u8)
+        Ok((product / 1000) as u8)
     } else {
-        Across::Refused(Error::CurrentTooLarge)
+        Err(Error::CurrentTooLarge)
     }
 }

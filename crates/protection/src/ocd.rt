@@ -1,168 +1,192 @@
 // The steps at which an overcurrent trips.
-ghost use Rattle.std.specs.Prelude.{◌≡◌, ◌++◌};
-ghost use Rattle.protection.specs.Answers.{as_code, as_ocd_step};
-ghost use Rattle.protection.specs.Ranges.{code_for, range_for};
-ghost use Rattle.protection.specs.Inside.{row_for, On, ocd_line};
-ghost use Rattle.protection.specs.Steps.{ocd_lower, ocd_upper, step, step_for};
-ghost use Rattle.protection.specs.Ocd.{mv_of, named};
+ghost use Rattle.std.specs.Prelude.{◌≡◌};
+ghost use Rattle.protection.specs.Inside.{On, ocd_line};
+ghost use Rattle.protection.specs.Steps.{ocd_lower, ocd_upper};
+ghost use Rattle.protection.specs.Ocd.{mv_of};
 
-use crate::range::{Code, OCDSCDRange};
-use crate::{Across, Row};
-use refusals::Error;
-use units::{Amperes, MicroOhms};
+use crate::Threshold;
+use crate::range::Codes;
 
 #[derive(Clone, Copy)]
 pub enum OCDThreshold {
-    _8mV,
-    _11mV,
-    _14mV,
-    _17mV,
-    _19mV,
-    _22mV,
-    _25mV,
-    _28mV,
-    _31mV,
-    _33mV,
-    _36mV,
-    _39mV,
-    _42mV,
-    _44mV,
-    _47mV,
-    _50mV,
-    _56mV,
-    _61mV,
-    _67mV,
-    _72mV,
-    _78mV,
-    _83mV,
-    _89mV,
-    _94mV,
-    _100mV,
+    _8mV = 8,
+    _11mV = 11,
+    _14mV = 14,
+    _17mV = 17,
+    _19mV = 19,
+    _22mV = 22,
+    _25mV = 25,
+    _28mV = 28,
+    _31mV = 31,
+    _33mV = 33,
+    _36mV = 36,
+    _39mV = 39,
+    _42mV = 42,
+    _44mV = 44,
+    _47mV = 47,
+    _50mV = 50,
+    _56mV = 56,
+    _61mV = 61,
+    _67mV = 67,
+    _72mV = 72,
+    _78mV = 78,
+    _83mV = 83,
+    _89mV = 89,
+    _94mV = 94,
+    _100mV = 100,
 }
 
-#[derive(Drop)]
-pub enum OCDStep {
-    Step(OCDThreshold),
-    Refused(Error),
+impl Threshold for OCDThreshold {
+    ghost mv_of = { mv_of };
+
+    ghost lower = { ocd_lower };
+
+    ghost upper = { ocd_upper };
+
+    fn mv(self) -> u8 {
+        self as u8
+    }
+
+    fn codes(self) -> Codes {
+        match self {
+            OCDThreshold::_8mV => Codes {
+                lower: Some(0),
+                upper: None,
+            },
+            OCDThreshold::_11mV => Codes {
+                lower: Some(1),
+                upper: None,
+            },
+            OCDThreshold::_14mV => Codes {
+                lower: Some(2),
+                upper: None,
+            },
+            OCDThreshold::_17mV => Codes {
+                lower: Some(3),
+                upper: Some(0),
+            },
+            OCDThreshold::_19mV => Codes {
+                lower: Some(4),
+                upper: None,
+            },
+            OCDThreshold::_22mV => Codes {
+                lower: Some(5),
+                upper: Some(1),
+            },
+            OCDThreshold::_25mV => Codes {
+                lower: Some(6),
+                upper: None,
+            },
+            OCDThreshold::_28mV => Codes {
+                lower: Some(7),
+                upper: Some(2),
+            },
+            OCDThreshold::_31mV => Codes {
+                lower: Some(8),
+                upper: None,
+            },
+            OCDThreshold::_33mV => Codes {
+                lower: Some(9),
+                upper: Some(3),
+            },
+            OCDThreshold::_36mV => Codes {
+                lower: Some(10),
+                upper: None,
+            },
+            OCDThreshold::_39mV => Codes {
+                lower: Some(11),
+                upper: Some(4),
+            },
+            OCDThreshold::_42mV => Codes {
+                lower: Some(12),
+                upper: None,
+            },
+            OCDThreshold::_44mV => Codes {
+                lower: Some(13),
+                upper: Some(5),
+            },
+            OCDThreshold::_47mV => Codes {
+                lower: Some(14),
+                upper: None,
+            },
+            OCDThreshold::_50mV => Codes {
+                lower: Some(15),
+                upper: Some(6),
+            },
+            OCDThreshold::_56mV => Codes {
+                lower: None,
+                upper: Some(7),
+            },
+            OCDThreshold::_61mV => Codes {
+                lower: None,
+                upper: Some(8),
+            },
+            OCDThreshold::_67mV => Codes {
+                lower: None,
+                upper: Some(9),
+            },
+            OCDThreshold::_72mV => Codes {
+                lower: None,
+                upper: Some(10),
+            },
+            OCDThreshold::_78mV => Codes {
+                lower: None,
+                upper: Some(11),
+            },
+            OCDThreshold::_83mV => Codes {
+                lower: None,
+                upper: Some(12),
+            },
+            OCDThreshold::_89mV => Codes {
+                lower: None,
+                upper: Some(13),
+            },
+            OCDThreshold::_94mV => Codes {
+                lower: None,
+                upper: Some(14),
+            },
+            OCDThreshold::_100mV => Codes {
+                lower: None,
+                upper: Some(15),
+            },
+        }
+    }
+
+    fn from_mv(mv_threshold: u8) -> Self {
+        ladder(mv_threshold)
+    }
 }
 
-impl OCDThreshold {
-    pub fn mv(self) -> u8
-        ensures { result ≡ mv_of self }
-    {
-        self.row().0
-    }
-
-    #[tactic(auto, unfolding(crate::specs::Ranges::range_for))]
-    pub fn range(self) -> OCDSCDRange
-        ensures { result ≡ range_for ocd_lower ocd_upper (mv_of self) }
-    {
-        match self {
-            OCDThreshold::_17mV
-            | OCDThreshold::_22mV
-            | OCDThreshold::_28mV
-            | OCDThreshold::_33mV
-            | OCDThreshold::_39mV
-            | OCDThreshold::_44mV
-            | OCDThreshold::_50mV => OCDSCDRange::Unknown,
-            OCDThreshold::_56mV
-            | OCDThreshold::_61mV
-            | OCDThreshold::_67mV
-            | OCDThreshold::_72mV
-            | OCDThreshold::_78mV
-            | OCDThreshold::_83mV
-            | OCDThreshold::_89mV
-            | OCDThreshold::_94mV
-            | OCDThreshold::_100mV => OCDSCDRange::Upper,
-            _ => OCDSCDRange::Lower,
-        }
-    }
-
-    pub fn bits(self, range: OCDSCDRange) -> Code
-        ensures { as_code result ≡ code_for ocd_lower ocd_upper range (mv_of self) }
-    {
-        crate::code_for(range, self.row())
-    }
-
-    pub fn from_mv(mv_threshold: u8) -> Self
-        ensures { mv_of result ≡ step (ocd_lower ++ ocd_upper) mv_threshold }
-    {
-        OCDThreshold::ladder(mv_threshold)
-    }
-
-    pub fn from_current(threshold: Amperes, shunt: MicroOhms) -> OCDStep
-        ensures { as_ocd_step result ≡ step_for (ocd_lower ++ ocd_upper) threshold.0 shunt.0 }
-    {
-        match crate::mv_across(threshold, shunt) {
-            Across::Mv(mv) => OCDStep::Step(OCDThreshold::from_mv(mv)),
-            Across::Refused(e) => OCDStep::Refused(e),
-        }
-    }
-
-    // A line a step, lowest first; a step that both of the datasheet's tables have has one line. Stated by the answer's own line, which the prover
-    // closes at each arm by itself; `from_mv` says it by the tables.
-    fn ladder(mv_threshold: u8) -> Self
-        ensures { On (ocd_line result) mv_threshold }
-    {
-        match mv_threshold {
-            0..=8 => OCDThreshold::_8mV,
-            9..=11 => OCDThreshold::_11mV,
-            12..=14 => OCDThreshold::_14mV,
-            15..=17 => OCDThreshold::_17mV,
-            18..=19 => OCDThreshold::_19mV,
-            20..=22 => OCDThreshold::_22mV,
-            23..=25 => OCDThreshold::_25mV,
-            26..=28 => OCDThreshold::_28mV,
-            29..=31 => OCDThreshold::_31mV,
-            32..=33 => OCDThreshold::_33mV,
-            34..=36 => OCDThreshold::_36mV,
-            37..=39 => OCDThreshold::_39mV,
-            40..=42 => OCDThreshold::_42mV,
-            43..=44 => OCDThreshold::_44mV,
-            45..=47 => OCDThreshold::_47mV,
-            48..=50 => OCDThreshold::_50mV,
-            51..=56 => OCDThreshold::_56mV,
-            57..=61 => OCDThreshold::_61mV,
-            62..=67 => OCDThreshold::_67mV,
-            68..=72 => OCDThreshold::_72mV,
-            73..=78 => OCDThreshold::_78mV,
-            79..=83 => OCDThreshold::_83mV,
-            84..=89 => OCDThreshold::_89mV,
-            90..=94 => OCDThreshold::_94mV,
-            95..=255 => OCDThreshold::_100mV,
-        }
-    }
-
-    // Stated from the number's side, which the prover closes at each arm by itself; `mv` and `bits` say the same from the step's side.
-    fn row(self) -> Row
-        ensures { (self ≡ named result.0) × (result ≡ row_for ocd_lower ocd_upper (mv_of (named result.0))) }
-    {
-        match self {
-            OCDThreshold::_8mV => Row(8, 0, 0),
-            OCDThreshold::_11mV => Row(11, 1, 0),
-            OCDThreshold::_14mV => Row(14, 2, 0),
-            OCDThreshold::_17mV => Row(17, 3, 0),
-            OCDThreshold::_19mV => Row(19, 4, 0),
-            OCDThreshold::_22mV => Row(22, 5, 1),
-            OCDThreshold::_25mV => Row(25, 6, 0),
-            OCDThreshold::_28mV => Row(28, 7, 2),
-            OCDThreshold::_31mV => Row(31, 8, 0),
-            OCDThreshold::_33mV => Row(33, 9, 3),
-            OCDThreshold::_36mV => Row(36, 10, 0),
-            OCDThreshold::_39mV => Row(39, 11, 4),
-            OCDThreshold::_42mV => Row(42, 12, 0),
-            OCDThreshold::_44mV => Row(44, 13, 5),
-            OCDThreshold::_47mV => Row(47, 14, 0),
-            OCDThreshold::_50mV => Row(50, 15, 6),
-            OCDThreshold::_56mV => Row(56, 0, 7),
-            OCDThreshold::_61mV => Row(61, 0, 8),
-            OCDThreshold::_67mV => Row(67, 0, 9),
-            OCDThreshold::_72mV => Row(72, 0, 10),
-            OCDThreshold::_78mV => Row(78, 0, 11),
-            OCDThreshold::_83mV => Row(83, 0, 12),
-            OCDThreshold::_89mV => Row(89, 0, 13),
-            OCDThreshold::_94mV => Row(94, 0, 14),
-            OCDThreshold::_100mV => Row(100, 0, 15),
-        }
+// A line a step, lowest first; a step that both of the datasheet's tables have has one line. Stated by the answer's own line, which the prover
+// closes at each arm by itself; `from_mv` says it by the tables.
+fn ladder(mv_threshold: u8) -> OCDThreshold
+    ensures { On (ocd_line result) mv_threshold }
+{
+    match mv_threshold {
+        0..=8 => OCDThreshold::_8mV,
+        9..=11 => OCDThreshold::_11mV,
+        12..=14 => OCDThreshold::_14mV,
+        15..=17 => OCDThreshold::_17mV,
+        18..=19 => OCDThreshold::_19mV,
+        20..=22 => OCDThreshold::_22mV,
+        23..=25 => OCDThreshold::_25mV,
+        26..=28 => OCDThreshold::_28mV,
+        29..=31 => OCDThreshold::_31mV,
+        32..=33 => OCDThreshold::_33mV,
+        34..=36 => OCDThreshold::_36mV,
+        37..=39 => OCDThreshold::_39mV,
+        40..=42 => OCDThreshold::_42mV,
+        43..=44 => OCDThreshold::_44mV,
+        45..=47 => OCDThreshold::_47mV,
+        48..=50 => OCDThreshold::_50mV,
+        51..=56 => OCDThreshold::_56mV,
+        57..=61 => OCDThreshold::_61mV,
+        62..=67 => OCDThreshold::_67mV,
+        68..=72 => OCDThreshold::_72mV,
+        73..=78 => OCDThreshold::_78mV,
+        79..=83 => OCDThreshold::_83mV,
+        84..=89 => OCDThreshold::_89mV,
+        90..=94 => OCDThreshold::_94mV,
+        95..=255 => OCDThreshold::_100mV,
     }
 }

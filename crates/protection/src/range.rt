@@ -1,70 +1,82 @@
 // The two ranges of steps, of which the chip is set to one.
 ghost use Rattle.std.specs.Prelude.{◌≡◌};
-ghost use Rattle.protection.specs.Answers.{as_code, as_range};
+ghost use Rattle.protection.specs.Answers.{as_number, as_range};
+ghost use Rattle.protection.specs.Inside.{range_of, number_in};
 ghost use Rattle.protection.specs.Ranges.{range_bits, has_lower, has_upper, for_both};
 
 use refusals::Error;
 
-#[derive(Clone, Copy)]
+#[derive(Clone, Copy, PartialEq, Eq)]
 pub enum OCDSCDRange {
     Lower,
     Upper,
     Unknown,
 }
 
-#[derive(Drop)]
-pub enum Code {
-    Bits(u8),
-    Refused(Error),
-}
-
-#[derive(Drop)]
-pub enum RangeAnswer {
-    Use(OCDSCDRange),
-    Refused(Error),
-}
-
 // The range that has both steps; where both ranges have both, the lower.
-pub fn range_to_use(scd_range: OCDSCDRange, ocd_range: OCDSCDRange) -> RangeAnswer
+pub fn range_to_use(scd_range: OCDSCDRange, ocd_range: OCDSCDRange) -> Result<OCDSCDRange, Error>
     ensures { as_range result ≡ for_both scd_range ocd_range }
 {
     if scd_range.has_lower() & ocd_range.has_lower() {
-        return RangeAnswer::Use(OCDSCDRange::Lower);
+        Ok(OCDSCDRange::Lower)
+    } else if scd_range.has_upper() & ocd_range.has_upper() {
+        Ok(OCDSCDRange::Upper)
+    } else {
+        Err(Error::OCDSCDRangeMismatch)
     }
-    if scd_range.has_upper() & ocd_range.has_upper() {
-        return RangeAnswer::Use(OCDSCDRange::Upper);
-    }
-    RangeAnswer::Refused(Error::OCDSCDRangeMismatch)
 }
 
 impl OCDSCDRange {
-    pub fn bits(self) -> Code
-        ensures { as_code result ≡ range_bits self }
+    pub fn bits(self) -> Result<u8, Error>
+        ensures { as_number result ≡ range_bits self }
     {
         match self {
-            OCDSCDRange::Lower => Code::Bits(0 << 7),
-            OCDSCDRange::Upper => Code::Bits(1 << 7),
-            OCDSCDRange::Unknown => Code::Refused(Error::UnknownRange),
+            OCDSCDRange::Lower => Ok(0 << 7),
+            OCDSCDRange::Upper => Ok(1 << 7),
+            OCDSCDRange::Unknown => Err(Error::UnknownRange),
         }
     }
 
     fn has_lower(self) -> bool
         ensures { result ≡ has_lower self }
     {
-        match self {
-            OCDSCDRange::Lower => true,
-            OCDSCDRange::Upper => false,
-            OCDSCDRange::Unknown => true,
-        }
+        self != OCDSCDRange::Upper
     }
 
     fn has_upper(self) -> bool
         ensures { result ≡ has_upper self }
     {
-        match self {
-            OCDSCDRange::Lower => false,
-            OCDSCDRange::Upper => true,
-            OCDSCDRange::Unknown => true,
+        self != OCDSCDRange::Lower
+    }
+}
+
+// A step's code in each range that has it.
+#[derive(Clone, Copy)]
+pub struct Codes {
+    pub lower: Option<u8>,
+    pub upper: Option<u8>,
+}
+
+impl Codes {
+    // Unknown where both ranges have the step, so that either will do.
+    pub fn range(self) -> OCDSCDRange
+        ensures { result ≡ range_of self }
+    {
+        match (self.lower, self.upper) {
+            (Some(_), None) => OCDSCDRange::Lower,
+            (None, Some(_)) => OCDSCDRange::Upper,
+            _ => OCDSCDRange::Unknown,
+        }
+    }
+
+    // 0 where the range lacks the step.
+    pub fn code_in(self, range: OCDSCDRange) -> Result<u8, Error>
+        ensures { as_number result ≡ number_in self range }
+    {
+        match range {
+            OCDSCDRange::Lower => Ok(self.lower.unwrap_or(0)),
+            OCDSCDRange::Upper => Ok(self.upper.unwrap_or(0)),
+            OCDSCDRange::Unknown => Err(Error::UnknownRange),
         }
     }
 }
