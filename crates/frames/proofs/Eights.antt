@@ -4,14 +4,14 @@ use mathlib.Core.Path.{◌≡◌, refl, sym, ap, ap₂, ◌∙◌}
 use mathlib.Core.Bool.{Bool, true, false, ◌&&◌, and-true, and_assoc}
 use mathlib.Core.Logic.{◌⊎◌, inl, inr, ⊎_elim}
 use mathlib.Core.List.{List, [], ◌∷◌, ◌++◌}
-use Prim.Native.Nat.{ℕ, zero, suc, ◌+◌, ◌-◌, ◌*◌, ◌≤◌, ◌<◌}
+use Prim.Native.Nat.{ℕ, zero, suc, ◌+◌, ◌-◌, ◌*◌, ◌≤◌, ◌<◌, min}
 use native.Mathlib.Numerals.{add-one, add-two}
 use native.Mathlib.Omega.{arith}
 use lib.Bits.{bit_or, bit_xor, or_add_and, and_le_r, xor_self}
-use lib.Dec.{eqb, ltb}
+use lib.Dec.{eqb, leb}
 use lib.ListN.{length, get_or, take, drop, set, length-drop, drop_of_length-le}
 use lib.Seq.{drop-cons, drop-drop, take-add, take-take, take_all, take-nil, get_or-take, get_or-drop, length-take-le}
-use borrow.Author.Tests.{eqb-true, eqb-false, eq-eqb, ne_eqb, ltb-false}
+use borrow.Author.Tests.{eqb-true, eqb-false, eq-eqb, ne_eqb, leb-true, leb-false}
 use Rattle.check_byte.specs.CheckByte.{check_byte}
 use Rattle.check_byte.proofs.Xor.{xor_zero}
 use Rattle.frames.specs.Frames.{right, data_of}
@@ -140,16 +140,15 @@ carried_eight l out k h room =
     ∙ ap (put out 0) (sym (data_append before these (omega arith)))
     ∙ ap (λ (v : List ℕ). put out 0 (data_of v)) (sym (take-add (16 * k) 16 l) ∙ ap (λ (n : ℕ). take n l) (sym after))
 
--- the loop's test fails
-pub passed : (k a b : ℕ) → (ltb k a && ltb k b) ≡ false → (a ≤ k) ⊎ (b ≤ k)
-passed k a b = by (ltb k a) refl
-  where
-    by : (t : Bool) → ltb k a ≡ t → (t && ltb k b) ≡ false → (a ≤ k) ⊎ (b ≤ k)
-    by true e f = inr (ltb-false k b f)
-    by false e f = inl (ltb-false k a e)
-
 -- as many eights are passed as are told, or the four that 66 bytes have
-module _ (l : List ℕ) (eights k : ℕ) (size : length l ≡ 66) (some : k ≤ eights) (few : k ≤ 4) (end : (eights ≤ k) ⊎ (4 ≤ k)) where
+module _ (l : List ℕ) (eights k : ℕ) (size : length l ≡ 66) (end : k ≡ min eights 4) where
+  few_or_four : (eights ≤ k) ⊎ (4 ≤ k)
+  few_or_four = by (leb eights 4) refl
+    where
+      by : (t : Bool) → leb eights 4 ≡ t → (eights ≤ k) ⊎ (4 ≤ k)
+      by true e = let h = leb-true eights 4 e in inl (omega arith)
+      by false e = let h = leb-false eights 4 e in inr (omega arith)
+
   pub tested_eights : right [] (take (16 * (eights - k)) (drop (16 * k + 2) l)) ≡ true
   unfolding right
   tested_eights =
@@ -158,7 +157,7 @@ module _ (l : List ℕ) (eights k : ℕ) (size : length l ≡ 66) (some : k ≤ 
       (λ (h : 4 ≤ k).
       let past : length l ≤ 16 * k + 2 = omega arith in
       rw (drop_of_length-le l past, take-nil (16 * (eights - k))))
-      end
+      few_or_four
 
   pub carried_eights : take 32 (data_of (take (16 * eights) l)) ≡ data_of (take (16 * k) l)
   carried_eights =
@@ -172,4 +171,4 @@ module _ (l : List ℕ) (eights k : ℕ) (size : length l ≡ 66) (some : k ≤ 
       (λ (h : 4 ≤ k).
       let all : 64 ≡ 16 * k = omega arith in
       take-take 64 (16 * eights) l (omega arith) ∙ ap (λ (n : ℕ). take n l) all)
-      end)
+      few_or_four)

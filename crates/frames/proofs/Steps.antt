@@ -16,15 +16,9 @@ use Rattle.frames.specs.Put.{put}
 use Rattle.frames.proofs.Frames.{length_write_frame, written_frame_lem}
 use Rattle.frames.proofs.Put.{put_none, put_more}
 
-module _ (l : List ℕ) (i : ℕ) where
-  -- the element at i, and what is left after it
-  pub next : i < length l → drop i l ≡ get_or l i 0 ∷ drop (i + 1) l
-  next h = rw add-one (drop-cons l i 0 h)
-
-  next_checked : (before : List ℕ) → i < length l
-      → checked before (drop i l) ≡ get_or l i 0 ∷ check_byte (before ++ get_or l i 0 ∷ []) ∷ checked [] (drop (i + 1) l)
-  unfolding checked
-  next_checked before h = rw next
+-- the element at i, and what is left after it
+pub next : (l : List ℕ) (i : ℕ) → i < length l → drop i l ≡ get_or l i 0 ∷ drop (i + 1) l
+next l i h = rw add-one (drop-cons l i 0 h)
 
 -- the address byte, as the code has it
 pub shifted : (address : ℕ) → address * 2 % 256 ≡ write_byte address
@@ -57,17 +51,14 @@ sent check is address reg bytes out out₁ r e few room n done =
     )
 
 -- a byte and its check byte are stored, and the rest follows
-pub stored : (before l out : List ℕ) (i c : ℕ) → i < length l → 2 * i + 2 < length out → c ≡ check_byte (before ++ get_or l i 0 ∷ [])
-    → put (set (set out (2 * i + 1) (get_or l i 0)) (2 * i + 2) c) (2 * (i + 1) + 1) (checked [] (drop (i + 1) l))
-    ≡ put out (2 * i + 1) (checked before (drop i l))
-stored before l out i c h room e =
-    let x = get_or l i 0 in
-    let rest = checked [] (drop (i + 1) l) in
-    let room₁ : 2 * i + 1 < length out = omega arith in
-    let room₂ : 2 * i + 2 < length (set out (2 * i + 1) x) = simp length-set room in
-    let second : 2 * i + 2 ≡ 2 * i + 1 + 1 = omega arith in
-    let after : 2 * (i + 1) + 1 ≡ 2 * i + 2 + 1 = omega arith in
-    rw (after, ← put_more (set out (2 * i + 1) x) (2 * i + 2) c rest, second, ← put_more out (2 * i + 1) x (c ∷ rest), e, next_checked l i before)
+pub stored : (before : List ℕ) (x : ℕ) (rest out : List ℕ) (at c : ℕ) → at + 1 < length out → c ≡ check_byte (before ++ x ∷ [])
+    → put (set (set out at x) (at + 1) c) (at + 2) (checked [] rest) ≡ put out at (checked before (x ∷ rest))
+unfolding checked
+stored before x rest out at c room e =
+    let room₁ : at < length out = omega arith in
+    let room₂ : at + 1 < length (set out at x) = simp length-set room in
+    let after : at + 2 ≡ at + 1 + 1 = omega arith in
+    rw (after, ← put_more (set out at x) (at + 1) c (checked [] rest), ← put_more out at x (c ∷ checked [] rest), e)
 
 -- nothing is left to store
 pub stored_all : (before l out : List ℕ) (i at : ℕ) → length l ≤ i → put out at (checked before (drop i l)) ≡ out

@@ -1,14 +1,13 @@
 -- The first pair is tested, and then eight pairs at a time; the data of eight pairs is stored after that of the pairs before them.
 -- Assumes nothing.
-use Rattle.std.proofs.Common.{ℕ, ◌≡◌, ◌+◌, ◌-◌, ◌*◌, ◌%◌, ◌<◌, Bool, true, bit_or, ◌&&◌, List, [], ◌∷◌, length, take, drop, get_or, arith}
-use Rattle.std.proofs.Common.{rules, refl, sym, ap, ◌∙◌, eqb, ltb}
-use mathlib.Core.Bool.{and-eq-true_iff}
-use borrow.Author.Tests.{eq-eqb, ne_eqb, ltb-true}
+use Rattle.std.proofs.Common.{ℕ, ◌≡◌, ◌+◌, ◌-◌, ◌*◌, ◌%◌, min, Bool, bit_or, ◌&&◌, List, [], ◌∷◌, length, take, drop, get_or, arith}
+use Rattle.std.proofs.Common.{rules, refl, sym, ap, ◌∙◌, eqb}
+use borrow.Author.Tests.{eq-eqb, ne_eqb}
 use Rattle.check_byte.specs.CheckByte.{check_byte}
 use Rattle.frames.specs.Frames.{read_byte, right, data_of}
 use Rattle.frames.specs.Put.{put}
 use Rattle.frames.proofs.Put.{put_none}
-use Rattle.frames.proofs.Eights.{tested_first, tested_eight, carried_eight, passed, tested_eights, carried_eights}
+use Rattle.frames.proofs.Eights.{tested_first, tested_eight, carried_eight, tested_eights, carried_eights}
 use Rattle.frames.proofs.Steps.{shifted_one}
 use Rattle.frames.proofs.taken.Goals as goal
 
@@ -18,12 +17,6 @@ first : (address eights c : ℕ) (frame : List ℕ) → length frame ≡ 66 → 
 first address eights c frame size e =
     tested_first (read_byte address ∷ []) frame (16 * eights) c (omega arith)
     (e ∙ ap (λ (x : ℕ). check_byte (x ∷ get_or frame 0 0 ∷ [])) (shifted_one address))
-
--- the loop's test
-more : (k a b : ℕ) → (ltb k a && ltb k b) ≡ true → (k < a) × (k < b)
-more k a b e =
-    let h = (and-eq-true_iff (ltb k a) (ltb k b)).0 e in
-    (ltb-true k a h.0, ltb-true k b h.1)
 
 pub returns-then-bytes-check_byte2 : goal.returns-then-bytes-check_byte2
 returns-then-bytes-check_byte2 c =
@@ -46,9 +39,6 @@ loop-k-init c =
           ∙ ap (λ (t : Bool). t && right [] (take (16 * a.eights) (drop 2 frame))) (eq-eqb _ _ c.if-bytes-check_byte2.false)
           ∙ ap (λ (n : ℕ). right [] (take n (drop 2 frame))) all,
       sym (put_none a.«data».now 0),
-      refl,
-      omega arith,
-      omega arith,
     )
 
 pub returns-then-not-right_eight : goal.returns-then-not-right_eight
@@ -57,10 +47,9 @@ returns-then-not-right_eight c =
     let k = c.loop-k in
     let frame = a.frame.now in
     let size : length frame ≡ 66 = search rules in
-    let h = more k.k a.eights 4 c.loop-k-test.true in
     let rest = right [] (take (16 * (a.eights - (k.k + 1))) (drop (16 * (k.k + 1) + 2) frame)) in (
       sym (k.invariant.0
-          ∙ tested_eight frame a.eights k.k c.right_eight.result (omega arith) h.0 c.right_eight.ensures
+          ∙ tested_eight frame a.eights k.k c.right_eight.result (omega arith) (omega arith) c.right_eight.ensures
           ∙ ap (λ (t : Bool). t && rest) c.if-not-right_eight.true),
       refl,
     )
@@ -71,17 +60,13 @@ loop-k-preserved c =
     let k = c.loop-k in
     let frame = a.frame.now in
     let size : length frame ≡ 66 = search rules in
-    let h = more k.k a.eights 4 c.loop-k-test.true in
     let rest = right [] (take (16 * (a.eights - (k.k + 1))) (drop (16 * (k.k + 1) + 2) frame)) in (
       k.invariant.0
-          ∙ tested_eight frame a.eights k.k c.right_eight.result (omega arith) h.0 c.right_eight.ensures
+          ∙ tested_eight frame a.eights k.k c.right_eight.result (omega arith) (omega arith) c.right_eight.ensures
           ∙ ap (λ (t : Bool). t && rest) c.if-not-right_eight.false,
       c.carry_eight.ensures
           ∙ ap (λ (v : List ℕ). put v (8 * k.k) (data_of (take 16 (drop (16 * k.k) frame)))) k.invariant.1
           ∙ carried_eight frame a.«data».now k.k (omega arith) (omega arith),
-      omega (arith, c.carry_eight.auto.«data»),
-      omega arith,
-      omega arith,
     )
 
 pub returns : goal.returns
@@ -90,7 +75,7 @@ returns c =
     let k = c.loop-k in
     let frame = a.frame.now in
     let size : length frame ≡ 66 = search rules in
-    let end = passed k.k a.eights 4 c.loop-k-test.false in (
-      sym (k.invariant.0 ∙ tested_eights frame a.eights k.k size k.invariant.3 k.invariant.4 end),
-      k.invariant.1 ∙ ap (put a.«data».now 0) (sym (carried_eights frame a.eights k.k size k.invariant.3 k.invariant.4 end)),
+    let end : k.k ≡ min a.eights 4 = omega arith in (
+      sym (k.invariant.0 ∙ tested_eights frame a.eights k.k size end),
+      k.invariant.1 ∙ ap (put a.«data».now 0) (sym (carried_eights frame a.eights k.k size end)),
     )

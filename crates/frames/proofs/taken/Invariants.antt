@@ -1,5 +1,5 @@
 -- The answer is that of the pairs left, and `data` has the data of those passed.
-use Rattle.std.proofs.Common.{◌-◌, ◌≡◌, [], ◌∷◌, ◌+◌, ◌*◌, ◌≤◌, length, take, drop}
+use Rattle.std.proofs.Common.{◌-◌, ◌≡◌, [], ◌∷◌, ◌+◌, ◌*◌, take, drop}
 use Rattle.frames.specs.Frames.{read_byte, right, data_of}
 use Rattle.frames.specs.Put.{put}
 use Rattle.frames.proofs.taken.Given as goal
@@ -9,9 +9,3 @@ invariant-loop-k l =
     (right (read_byte l.address ∷ []) (take (16 * l.eights + 2) l.frame)
     ≡ right [] (take (16 * (l.eights - l.k)) (drop (16 * l.k + 2) l.frame)))
     × (l.«data» ≡ put l.fn.«data» 0 (data_of (take (16 * l.k) l.frame)))
-    × (length l.«data» ≡ length l.fn.«data»)
-    × (l.k ≤ l.eights)
-    × (l.k ≤ 4)
-
-abbrev pub decreases-loop-k : goal.decreases-loop-k
-decreases-loop-k l = 4 - l.k
