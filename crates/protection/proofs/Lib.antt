@@ -1,5 +1,6 @@
 pub mod Walk
 pub mod Agree
+mod Codes
 pub mod DelayNames
 pub mod InRange
 pub mod Ladder
