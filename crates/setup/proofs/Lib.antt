@@ -1,2 +1,3 @@
 pub mod Agree
-mod Onward
+mod Seq
+mod ByLink

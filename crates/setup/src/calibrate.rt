@@ -11,6 +11,7 @@ use bus::Bus;
 use bus::link::Link;
 use refusals::Error;
 
+#[tactic(auto, using(crate::proofs::ByLink::calibrate_tells), unfolding(procedure::specs::Calibrate::read_adc_characteristics, bq769x0::specs::Registers::soundly, bus::specs::Programs::on_tape))]
 pub fn read_adc_characteristics(device: &mut BQ769x0, bus: &mut Bus) -> Result<(), Error>
     ensures { does (read_adc_characteristics device.old) bus (leaves (as_raw result) device.new) }
 {
@@ -21,6 +22,7 @@ pub fn read_adc_characteristics(device: &mut BQ769x0, bus: &mut Bus) -> Result<(
     Ok(())
 }
 
+#[tactic(auto, using(crate::proofs::Seq::stepped, crate::proofs::Seq::bytes_read), unfolding(crate::specs::Inside::calibration_read, bus::specs::Programs::proceed, bus::specs::Programs::on_tape))]
 pub(crate) fn calibrate(link: Link, bus: &mut Bus) -> Result<AdcTransferFunction, Error>
     ensures { does (calibration_read link) bus (as_calibration result) }
 {

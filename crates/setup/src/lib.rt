@@ -17,6 +17,7 @@ use refusals::Error;
 pub mod calibrate;
 mod stages;
 
+#[tactic(auto, unfolding(procedure::specs::Init::init_by, bq769x0::specs::Registers::soundly, bus::specs::Programs::on_tape))]
 pub fn init(device: &mut BQ769x0, config: Config, bus: &mut Bus) -> Result<CalculatedValues, Error>
     ensures { does (init_by steps_for device.old config) bus (leaves (as_init result) device.new) }
 {
@@ -30,6 +31,7 @@ pub fn init(device: &mut BQ769x0, config: Config, bus: &mut Bus) -> Result<Calcu
 }
 
 // The same on the head alone, with no test that the record is sound.
+#[tactic(auto, using(crate::proofs::Seq::stepped, bus::proofs::Programs::on_tape_bind, crate::proofs::ByLink::calibrate_tells), unfolding(procedure::specs::Init::onward, procedure::specs::Init::onward_by, bus::specs::Programs::proceed, bus::specs::Programs::on_tape))]
 pub fn set_up(head: &mut Head, config: Config, bus: &mut Bus) -> Result<CalculatedValues, Error>
     ensures { (readings : Readings) → does (set_up steps_for (with_head head.old readings) config) bus
         (leaves (as_init result) (with_head head.new readings)) }
