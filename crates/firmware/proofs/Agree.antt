@@ -5,52 +5,45 @@
 use mathlib.Core.Path.{◌≡◌, sym, ap, ◌∙◌}
 use Prim.Native.Nat.{ℕ}
 use mathlib.Core.List.{List}
+use Rattle.std.specs.Prelude.{Result}
+use Rattle.refusals.specs.declared.Error.{Error}
 use Rattle.bus.specs.Transfers.{Bus}
-use Rattle.bus.specs.Programs.{Prog, Ran, ran, on_tape}
+use Rattle.bus.specs.Programs.{Prog, Ran, ends, on_tape}
 use Rattle.plan.specs.Plan.{as_init}
-use Rattle.setup.specs.declared.left.Init.{Init}
+use Rattle.plan.specs.declared.CalculatedValues.{CalculatedValues}
 use Rattle.plan.proofs.Agree.{answer_agree}
+use Rattle.bq769x0.specs.declared.BQ769x0.{BQ769x0}
 use Rattle.firmware.specs.Handed.{Handed, handed}
 use Rattle.firmware.specs.JobCells.{Listed, listed, HandedList}
 use Rattle.firmware.specs.JobWired.{Beside, beside, HandedBoth, handed_both}
 use Rattle.firmware.specs.Found.{Found, found}
 
--- what all return
-left_agree : (r r' : Init)
-    → as_init r.answer ≡ as_init r'.answer → r.device ≡ r'.device → r.at ≡ r'.at → r ≡ r'
-left_agree r r' told devices places =
-    let answers = answer_agree r.answer r'.answer told in
-    λ i. record { answer = answers i; device = devices i; at = places i }
-
 -- `init_cells`
-pub cells_agree : (p : Prog Listed) (b : Bus) (r r' : Init) (list list' log log' : List ℕ)
-    → ran (listed (as_init r.answer) r.device list) b.tape log r.at ≡ on_tape p b
-    → ran (listed (as_init r'.answer) r'.device list') b.tape log' r'.at ≡ on_tape p b
-    → (r ≡ r') × (list ≡ list') × (log ≡ log')
-cells_agree p b r r' list list' log log' e e' =
+pub cells_agree : (p : Prog Listed) (b after after' : Bus) (a a' : Result CalculatedValues Error) (d d' : BQ769x0) (list list' : List ℕ)
+    → ends (listed (as_init a) d list) after ≡ on_tape p b
+    → ends (listed (as_init a') d' list') after' ≡ on_tape p b
+    → (a ≡ a') × (d ≡ d') × (list ≡ list') × (after ≡ after')
+cells_agree p b after after' a a' d d' list list' e e' =
     let same = e ∙ sym e' in (
-      left_agree r r'
-          (ap (λ (x : Ran Listed). x.answer.left.answer) same)
-          (ap (λ (x : Ran Listed). x.answer.left.device) same)
-          (ap (λ (x : Ran Listed). x.bus.at) same),
+      answer_agree a a' (ap (λ (x : Ran Listed). x.answer.left.answer) same),
+      ap (λ (x : Ran Listed). x.answer.left.device) same,
       ap (λ (x : Ran Listed). x.answer.list) same,
-      ap (λ (x : Ran Listed). x.bus.log) same,
+      ap (λ (x : Ran Listed). x.bus) same,
     )
 
 -- `init_wired`
-pub wired_agree : (p : Prog Beside) (b : Bus) (r r' : Init) (inputs inputs' list list' log log' : List ℕ)
-    → ran (beside (as_init r.answer) r.device inputs list) b.tape log r.at ≡ on_tape p b
-    → ran (beside (as_init r'.answer) r'.device inputs' list') b.tape log' r'.at ≡ on_tape p b
-    → (r ≡ r') × (inputs ≡ inputs') × (list ≡ list') × (log ≡ log')
-wired_agree p b r r' inputs inputs' list list' log log' e e' =
+pub wired_agree : (p : Prog Beside) (b after after' : Bus) (a a' : Result CalculatedValues Error) (d d' : BQ769x0)
+    (inputs inputs' list list' : List ℕ)
+    → ends (beside (as_init a) d inputs list) after ≡ on_tape p b
+    → ends (beside (as_init a') d' inputs' list') after' ≡ on_tape p b
+    → (a ≡ a') × (d ≡ d') × (inputs ≡ inputs') × (list ≡ list') × (after ≡ after')
+wired_agree p b after after' a a' d d' inputs inputs' list list' e e' =
     let same = e ∙ sym e' in (
-      left_agree r r'
-          (ap (λ (x : Ran Beside). x.answer.listed.left.answer) same)
-          (ap (λ (x : Ran Beside). x.answer.listed.left.device) same)
-          (ap (λ (x : Ran Beside). x.bus.at) same),
+      answer_agree a a' (ap (λ (x : Ran Beside). x.answer.listed.left.answer) same),
+      ap (λ (x : Ran Beside). x.answer.listed.left.device) same,
       ap (λ (x : Ran Beside). x.answer.inputs) same,
       ap (λ (x : Ran Beside). x.answer.listed.list) same,
-      ap (λ (x : Ran Beside). x.bus.log) same,
+      ap (λ (x : Ran Beside). x.bus) same,
     )
 
 -- `bq769x0_init`

@@ -1,18 +1,18 @@
 // The caller's byte after a question.
-ghost use Rattle.std.specs.Prelude.{◌≡◌};
+ghost use Rattle.std.specs.Prelude.{◌≡◌, ℕ};
+ghost use Rattle.refusals.specs.Refusal.{as_answer};
 ghost use Rattle.firmware.specs.Found.{found, found_for};
-ghost use Rattle.job.specs.Seconds.{as_seconds};
 
-use job::seconds::SecondsAnswer;
+use refusals::Error;
 
-pub(crate) fn store_seconds(answer: SecondsAnswer, byte: &mut [u8; 1]) -> u8
-    ensures { found result byte.new ≡ found_for (as_seconds answer) byte.old }
+pub(crate) fn store_byte(answer: Result<u8, Error>, byte: &mut [u8; 1]) -> u8
+    ensures { found result byte.new ≡ found_for (as_answer (λ (n : ℕ). n) answer) byte.old }
 {
     match answer {
-        SecondsAnswer::Seconds(s) => {
-            *byte = [s];
+        Ok(n) => {
+            *byte = [n];
             0
         }
-        SecondsAnswer::Refused(e) => e.number(),
+        Err(e) => e.number(),
     }
 }

@@ -5,14 +5,18 @@ ghost use Rattle.firmware.specs.JobWired.{spread_in};
 
 use bq769x0::BQ769x0;
 use layout::list::put_three;
-use plan::InitAnswer;
+use plan::CalculatedValues;
+use refusals::Error;
 
-pub(crate) fn store_spread(answer: InitAnswer, device: BQ769x0, bytes: &mut [u8; 12])
-    ensures { bytes.new ≡ spread_in bytes.old device (as_init answer) }
+pub(crate) fn store_spread(
+    answer: &Result<CalculatedValues, Error>,
+    device: &BQ769x0,
+    bytes: &mut [u8; 12],
+)
+    ensures { bytes.new ≡ spread_in bytes.old device.now (as_init answer.now) }
 {
-    let InitAnswer::Ready(_) = answer else {
-        return;
-    };
-    let spread = device.spread();
-    put_three(spread.sum.0, spread.lowest.0, spread.highest.0, bytes);
+    if answer.is_ok() {
+        let spread = device.spread();
+        put_three(spread.sum.0, spread.lowest.0, spread.highest.0, bytes);
+    }
 }

@@ -1,27 +1,38 @@
-// What C is told of a call that answers one number, or nothing: the number of its refusal, 0 where accepted, and the 36 bytes in out.
-ghost use Rattle.std.specs.Prelude.{◌≡◌};
-ghost use Rattle.refusals.specs.Refusal.{value, refused, as_refusal};
+// What C is told of a call: the number of its refusal, 0 where accepted, and the 36 bytes in out.
+ghost use Rattle.std.specs.Prelude.{◌≡◌, ℕ};
+ghost use Rattle.refusals.specs.Refusal.{number_of, as_answer};
+ghost use Rattle.plan.specs.Plan.{as_init};
 ghost use Rattle.layout.specs.Layout.{laid};
-ghost use Rattle.firmware.specs.Handed.{one_number};
+ghost use Rattle.firmware.specs.Handed.{layout, one_number};
 
 use bus::Cursor;
 use layout::lay_out;
-use plan::InitAnswer;
-use plan::answer::InitNumbers;
+use plan::CalculatedValues;
+use plan::answer::{InitNumbers, in_numbers, number};
 use refusals::Error;
 
-pub(crate) fn accept(n: u32, at: Cursor, out: &mut [u8; 36]) -> u8
-    ensures { (result ≡ 0) × (out.new ≡ laid at (one_number (value n))) }
+// Of an init.
+pub(crate) fn tell_values(
+    answer: &Result<CalculatedValues, Error>,
+    at: Cursor,
+    out: &mut [u8; 36],
+) -> u8
+    ensures { (result ≡ number_of (as_init answer.now)) × (out.new ≡ layout (as_init answer.now) at) }
 {
-    lay_out(out, at, InitNumbers(n, 0, 0, 0, 0));
-    0
+    lay_out(out, at, in_numbers(answer));
+    number(answer)
 }
 
-// As an init's refusal is told.
-pub(crate) fn refuse(e: Error, at: Cursor, out: &mut [u8; 36]) -> u8
-    ensures { (result ≡ (as_refusal e).number) × (out.new ≡ laid at (one_number (refused (as_refusal e)))) }
+// Of a call that answers one number; its refusal is told as an init's.
+pub(crate) fn tell_number(answer: Result<u32, Error>, at: Cursor, out: &mut [u8; 36]) -> u8
+    ensures { (result ≡ number_of (as_answer (λ (n : ℕ). n) answer))
+        × (out.new ≡ laid at (one_number (as_answer (λ (n : ℕ). n) answer))) }
 {
-    let answer = InitAnswer::Refused(e);
-    lay_out(out, at, answer.in_numbers());
-    answer.number()
+    match answer {
+        Ok(n) => {
+            lay_out(out, at, InitNumbers(n, 0, 0, 0, 0));
+            0
+        }
+        Err(e) => tell_values(&Err(e), at, out),
+    }
 }

@@ -1,4 +1,4 @@
--- Cells as bytes, four a cell: one more cell is four bytes more.
+-- Cells as bytes, four a cell: one more cell is four bytes more, and three are all of twelve.
 -- Assumes nothing.
 use mathlib.Core.Path.{◌≡◌, refl, sym, ap, ◌∙◌}
 use mathlib.Core.List.{List, [], ◌∷◌, ◌++◌, append-nil, append_assoc}
@@ -8,7 +8,7 @@ use lib.IntN.{ℤ}
 use lib.ListN.{length, take, get_or}
 use lib.Seq.{take-suc, length-take-le}
 use Rattle.frames.specs.Put.{put}
-use Rattle.frames.proofs.Put.{put_put}
+use Rattle.frames.proofs.Put.{put_put, put_all}
 use Rattle.numbers.specs.Numbers.{four, as_u32}
 use Rattle.layout.specs.Cells.{cell_bytes, stored}
 
@@ -46,3 +46,8 @@ one_more list m mvs i d h room e =
     ∙ ap (λ (k : ℕ). put (stored i mvs list) k (four (as_u32 (get_or mvs i d)))) (sym size ∙ end)
     ∙ put_put list 0 (cell_bytes (take i mvs)) fits (four (as_u32 (get_or mvs i d)))
     ∙ ap (λ (l : List ℕ). put list 0 l) (sym (bytes_next mvs i d h))
+
+pub all_three : (l : List ℕ) → length l ≡ 12 → (x y z : ℤ) → put l 0 (cell_bytes (x ∷ y ∷ z ∷ [])) ≡ cell_bytes (x ∷ y ∷ z ∷ [])
+all_three l size x y z =
+    let all = length_bytes (x ∷ y ∷ z ∷ []) in
+    put_all l (cell_bytes (x ∷ y ∷ z ∷ [])) (omega arith)

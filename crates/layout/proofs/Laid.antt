@@ -1,39 +1,21 @@
--- Numbers put one after the other: seven are the 36 bytes, three voltages the twelve.
+-- Numbers put one after the other: seven are the 36 bytes.
 -- Assumes nothing.
 use mathlib.Core.Path.{◌≡◌, ap, ◌∙◌}
-use mathlib.Core.List.{List, [], ◌∷◌, ◌++◌}
+use mathlib.Core.List.{List, ◌++◌}
 use Prim.Native.Nat.{ℕ, ◌+◌, ◌≤◌}
 use native.Mathlib.Omega.{arith}
-use lib.IntN.{ℤ}
 use lib.ListN.{length}
 use Rattle.frames.specs.Put.{put}
 use Rattle.frames.proofs.Put.{put_put, put_all}
 use Rattle.plan.specs.declared.answer.InitNumbers.{InitNumbers}
-use Rattle.numbers.specs.Numbers.{four, eight, as_u32}
+use Rattle.numbers.specs.Numbers.{four, eight}
 use Rattle.bus.specs.declared.Cursor.{Cursor}
 use Rattle.layout.specs.Layout.{laid}
-use Rattle.layout.specs.Cells.{cell_bytes}
 
 -- one more after what was put
 next : (l v w : List ℕ) (at : ℕ) → at + length v ≤ length l → {m m' : List ℕ} → m ≡ put l at v
     → m' ≡ put m (at + length v) w → m' ≡ put l at (v ++ w)
 next l v w at room e e' = e' ∙ ap (λ (x : List ℕ). put x (at + length v) w) e ∙ put_put l at v room w
-
-pub three_are : (l : List ℕ) → length l ≡ 12 → (x y z : ℤ) {i j k : ℕ} {a b c : List ℕ}
-    → i ≡ as_u32 x
-    → a ≡ put l 0 (four i)
-    → j ≡ as_u32 y
-    → b ≡ put a 4 (four j)
-    → k ≡ as_u32 z
-    → c ≡ put b 8 (four k)
-    → c ≡ cell_bytes (x ∷ y ∷ z ∷ [])
-unfolding four
-three_are l size x y z {i} {j} {k} ei ea ej eb ek ec =
-    let v1 = four i in
-    let v2 = v1 ++ four j in
-    let fb = next l v1 (four j) 0 (rw size (omega arith)) ea eb in
-    let fc = next l v2 (four k) 0 (rw size (omega arith)) fb ec in
-    fc ∙ put_all l (v2 ++ four k) (rw size (omega arith)) ∙ rw (ei, ej, ek)
 
 module _ (l : List ℕ) (at : Cursor) (f : InitNumbers) (size : length l ≡ 36) where
   room : (n : ℕ) → n ≤ 36 → 0 + n ≤ length l

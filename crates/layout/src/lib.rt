@@ -12,31 +12,26 @@ use plan::answer::InitNumbers;
 pub mod list;
 
 // Bytes, over those from `at` on.
+#[tactic(auto, unfolding(frames::specs::Put::put))]
 fn put_bytes(out: &mut [u8], at: usize, bytes: &[u8])
     requires { at + length bytes.now ≤ length out.old }
     ensures { out.new ≡ put out.old at bytes.now }
 {
-    let mut i = 0;
-    while i < bytes.len() {
-        out[at + i] = bytes[i];
-        i += 1;
-    }
+    out[at..at + bytes.len()].copy_from_slice(bytes);
 }
 
 fn put4(out: &mut [u8], at: usize, n: u32)
     requires { at + 4 ≤ length out.old }
     ensures { out.new ≡ put out.old at (four n) }
 {
-    let bytes = numbers::u32_bytes(n);
-    put_bytes(out, at, &bytes);
+    put_bytes(out, at, &numbers::u32_bytes(n));
 }
 
 fn put8(out: &mut [u8], at: usize, n: usize)
     requires { at + 8 ≤ length out.old }
     ensures { out.new ≡ put out.old at (eight n) }
 {
-    let bytes = numbers::u64_bytes(n as u64);
-    put_bytes(out, at, &bytes);
+    put_bytes(out, at, &numbers::u64_bytes(n as u64));
 }
 
 pub fn lay_out(out: &mut [u8; 36], at: Cursor, numbers: InitNumbers)

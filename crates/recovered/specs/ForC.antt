@@ -7,7 +7,7 @@ use Rattle.bus.specs.Transfers.{start}
 use Rattle.bus.specs.Programs.{Prog, ret, bind}
 use Rattle.bus.specs.Lent.{Lent, LentMut}
 use Rattle.bus.specs.declared.link.Link.{Link}
-use Rattle.runs.specs.Calls.{Call, lent_call}
+use Rattle.runs.specs.Calls.{Call, call_on}
 use Rattle.firmware.specs.Handed.{tape_used, log_used, numbers_in}
 
 -- what C is told of an answer: the number, and the five numbers in out
@@ -22,7 +22,7 @@ telling told p = bind p λ a. ret (told a)
 -- a call with this tape and log; the number that it returned, and out and the log then
 abbrev pub call_for_c : Lent → LentMut → ℕ → List ℕ → Call Told
 call_for_c tape log number out =
-    lent_call tape log start (record { number = number; numbers = numbers_in out })
+    call_on tape log start (record { number = number; numbers = numbers_in out })
     (record { tape = tape_used out; log = log_used out })
 
 -- address, check setting and size of field 20

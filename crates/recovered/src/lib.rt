@@ -24,18 +24,16 @@ ghost use Rattle.recovered.specs.InitForC as of_init;
 ghost use Rattle.recovered.specs.SetForC as of_set;
 
 use bq769x0::BQ769x0;
-use bus::Cursor;
-use bus::link::Raw;
+use bus::Bus;
 use commands::balancing;
-use commands::balancing::SetRead;
-use plan::Config;
-use setup::left::Init;
+use plan::{CalculatedValues, Config};
+use refusals::Error;
 
-pub fn init(device: BQ769x0, config: Config, tape: &[u8], log: &mut [u8], at: Cursor) -> Init
-    ensures { does (init_by steps_for device config) tape log at (leaves (as_init result.answer) result.device) result.at
-        × Demand3 config device (lent_call tape log at (leaves (as_init result.answer) result.device) result.at) }
+pub fn init(device: &mut BQ769x0, config: Config, bus: &mut Bus) -> Result<CalculatedValues, Error>
+    ensures { does (init_by steps_for device.old config) bus (leaves (as_init result) device.new)
+        × Demand3 config device.old (lent_call bus (leaves (as_init result) device.new)) }
 {
-    setup::init(device, config, tape, log, at)
+    setup::init(device, config, bus)
 }
 
 pub fn init_for_c(job: &[u8], tape: &[u8], log: &mut [u8], out: &mut [u8; 36]) -> u8
@@ -46,25 +44,18 @@ pub fn init_for_c(job: &[u8], tape: &[u8], log: &mut [u8], out: &mut [u8; 36]) -
     firmware::bq769x0_init(job, tape, log, out)
 }
 
-pub fn balance_set(
-    device: BQ769x0,
-    set: u16,
-    limit: u8,
-    tape: &[u8],
-    log: &mut [u8],
-    at: Cursor,
-) -> Raw
-    ensures { does (balance_set device set limit) tape log at (as_raw result.answer) result.at
-        × balance.Demand3 device set limit (lent_call tape log at (as_raw result.answer) result.at) }
+pub fn balance_set(device: &BQ769x0, set: u16, limit: u8, bus: &mut Bus) -> Result<(), Error>
+    ensures { does (balance_set device.now set limit) bus (as_raw result)
+        × balance.Demand3 device.now set limit (lent_call bus (as_raw result)) }
 {
-    balancing::balance_set(device, set, limit, tape, log, at)
+    balancing::balance_set(device, set, limit, bus)
 }
 
-pub fn balance_get(device: BQ769x0, tape: &[u8], log: &mut [u8], at: Cursor) -> SetRead
-    ensures { does (balance_get device) tape log at (as_set result.answer) result.at
-        × balance.ReadsEveryChip device (lent_call tape log at (as_set result.answer) result.at) }
+pub fn balance_get(device: &BQ769x0, bus: &mut Bus) -> Result<u16, Error>
+    ensures { does (balance_get device.now) bus (as_set result)
+        × balance.ReadsEveryChip device.now (lent_call bus (as_set result)) }
 {
-    balancing::balance_get(device, tape, log, at)
+    balancing::balance_get(device, bus)
 }
 
 pub fn balance_set_for_c(
