@@ -11,7 +11,6 @@ use lib.Dec.{leb}
 use lib.ListN.{length, get_or, take, drop, set, get_or-append, length-append, length-drop, take-append-drop, drop_of_length-le}
 use lib.Seq.{take_at, drop_at, get_or-append-add, sets, sets-eq, drop-drop, length-take-le, take-add, take-suc-set, drop-set-lt, append_snoc}
 use borrow.Author.Tests.{leb-true, leb-false}
-use borrow.Rule.Slice.PartMut.{put_mid}
 use Rattle.frames.specs.Put.{put}
 
 -- nothing takes no place
@@ -87,11 +86,6 @@ module _ (l : List ℕ) (at : ℕ) (v : List ℕ) (room : at + length v ≤ leng
   pub sets_put : sets l at v ≡ put l at v
   unfolding put
   sets_put = sets-eq v l at room
-
--- what is copied into a part of a list is put there
-pub mid_put : (l v w : List ℕ) (at k : ℕ) → k ≡ length v → w ≡ v → put_mid at k l w ≡ put l at v
-unfolding put
-mid_put l v w at k e s = rw (e, s, append_assoc) (ap (λ (back : List ℕ). take at l ++ (v ++ back)) (drop-drop (length v) at l))
 
 -- what was put at the front is taken back
 pub take_front : (l v : List ℕ) → length v ≤ length l → take (length v) (put l 0 v) ≡ v

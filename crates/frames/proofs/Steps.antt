@@ -1,9 +1,9 @@
 -- What the code's steps do: a step takes from the front of what is left, and leaves what the contract says of the rest.
 -- Assumes nothing.
-use mathlib.Core.Path.{◌≡◌, sym, ap, ◌∙◌}
+use mathlib.Core.Path.{◌≡◌, refl, sym, ap, ◌∙◌}
 use mathlib.Core.Bool.{Bool, cond}
 use mathlib.Core.List.{List, [], ◌∷◌, ◌++◌}
-use Prim.Native.Nat.{ℕ, ◌+◌, ◌*◌, ◌/◌, ◌%◌, ◌^◌, ◌≤◌, ◌<◌}
+use Prim.Native.Nat.{ℕ, zero, suc, ◌+◌, ◌*◌, ◌/◌, ◌%◌, ◌^◌, ◌≤◌, ◌<◌}
 use native.Mathlib.Numerals.{add-one}
 use native.Mathlib.Omega.{arith}
 use lib.Bits.{bit_or, or_shifted}
@@ -50,15 +50,32 @@ sent check is address reg bytes out out₁ r e few room n done =
           ∙ ap (put out 0) (sym whole),
     )
 
+-- what the check byte of data byte i covers ahead of it: the head of the frame for the first, nothing for a later one
+abbrev pub before_at : List ℕ → ℕ → List ℕ
+before_at head zero = head
+before_at head (suc i) = []
+
+pub at_first : (head : List ℕ) (i : ℕ) → i ≡ 0 → before_at head i ≡ head
+at_first head i e = rw e
+
+pub at_later : (head : List ℕ) (i : ℕ) → (i ≡ 0 → ⊥) → before_at head i ≡ []
+at_later head zero ne = absurd (ne refl)
+at_later head (suc i) ne = refl
+
 -- a byte and its check byte are stored, and the rest follows
-pub stored : (before : List ℕ) (x : ℕ) (rest out : List ℕ) (at c : ℕ) → at + 1 < length out → c ≡ check_byte (before ++ x ∷ [])
-    → put (set (set out at x) (at + 1) c) (at + 2) (checked [] rest) ≡ put out at (checked before (x ∷ rest))
+pub stored : (head l out : List ℕ) (i c : ℕ) → i < length l → 2 * i + 2 < length out → c ≡ check_byte (before_at head i ++ get_or l i 0 ∷ [])
+    → put (set (set out (2 * i + 1) (get_or l i 0)) (2 * i + 2) c) (2 * (i + 1) + 1) (checked (before_at head (i + 1)) (drop (i + 1) l))
+    ≡ put out (2 * i + 1) (checked (before_at head i) (drop i l))
 unfolding checked
-stored before x rest out at c room e =
-    let room₁ : at < length out = omega arith in
-    let room₂ : at + 1 < length (set out at x) = simp length-set room in
-    let after : at + 2 ≡ at + 1 + 1 = omega arith in
-    rw (after, ← put_more (set out at x) (at + 1) c (checked [] rest), ← put_more out at x (c ∷ checked [] rest), e)
+stored head l out i c h room e =
+    let x = get_or l i 0 in
+    let rest = checked [] (drop (i + 1) l) in
+    let room₁ : 2 * i + 1 < length out = omega arith in
+    let room₂ : 2 * i + 2 < length (set out (2 * i + 1) x) = simp length-set room in
+    let second : 2 * i + 2 ≡ 2 * i + 1 + 1 = omega arith in
+    let after : 2 * (i + 1) + 1 ≡ 2 * i + 2 + 1 = omega arith in
+    let later : before_at head (i + 1) ≡ [] = at_later head (i + 1) (λ n. omega arith) in
+    rw (after, later, ← put_more (set out (2 * i + 1) x) (2 * i + 2) c rest, second, ← put_more out (2 * i + 1) x (c ∷ rest), e, next l i)
 
 -- nothing is left to store
 pub stored_all : (before l out : List ℕ) (i at : ℕ) → length l ≤ i → put out at (checked before (drop i l)) ≡ out

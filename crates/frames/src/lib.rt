@@ -15,14 +15,23 @@ fn put_checked(address: u8, reg: u8, data: &[u8], out: &mut [u8])
     ensures { out.new
         ≡ put out.old 1 (checked (write_byte address ∷ reg ∷ []) «data».now) }
 {
-    let Some((first, rest)) = data.split_first() else {
-        return;
-    };
-    out[1] = *first;
-    out[2] = check_byte3(address << 1, reg, *first);
-    for (i, byte) in rest.iter().enumerate() {
-        out[2 * i + 3] = *byte;
-        out[2 * i + 4] = check_byte1(*byte);
+    for (i, byte) in data.iter().enumerate() {
+        out[2 * i + 1] = *byte;
+        out[2 * i + 2] = if i == 0 {
+            check_byte3(address << 1, reg, *byte)
+        } else {
+            check_byte1(*byte)
+        };
+    }
+}
+
+// The data after the register, alone.
+fn put_alone(data: &[u8], out: &mut [u8])
+    requires { length «data».now < length out.old }
+    ensures { out.new ≡ put out.old 1 «data».now }
+{
+    for (i, byte) in data.iter().enumerate() {
+        out[i + 1] = *byte;
     }
 }
 
@@ -40,7 +49,7 @@ pub fn write_frame(check: bool, address: u8, reg: u8, data: &[u8], out: &mut [u8
         put_checked(address, reg, data, out);
         data.len() * 2 + 1
     } else {
-        out[1..data.len() + 1].copy_from_slice(data);
+        put_alone(data, out);
         data.len() + 1
     }
 }
