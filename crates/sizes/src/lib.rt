@@ -13,23 +13,16 @@ pub const BQ76940: u8 = 15;
 pub fn is_size(x: u8) -> bool
     ensures { result ≡ is_size x }
 {
-    if x == BQ76920 {
-        return true;
-    }
-    if x == BQ76930 {
-        return true;
-    }
-    x == BQ76940
+    matches!(x, BQ76920 | BQ76930 | BQ76940)
 }
 
 pub fn is_count(x: u8, cells: u8) -> bool
     ensures { result ≡ is_count x cells }
 {
-    if x == BQ76920 {
-        return (3 <= cells) & (cells <= 5);
+    match x {
+        BQ76920 => (3..=5).contains(&cells),
+        BQ76930 => (6..=10).contains(&cells),
+        BQ76940 => (9..=15).contains(&cells),
+        _ => false,
     }
-    if x == BQ76930 {
-        return (6 <= cells) & (cells <= 10);
-    }
-    (x == BQ76940) & ((9 <= cells) & (cells <= 15))
 }

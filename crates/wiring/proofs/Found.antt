@@ -1,4 +1,4 @@
--- Looking for an input in a list: place by place; what is found stands there; in a list that rises each number is found at its own place.
+-- Looking for an input in a list: by its place; what is found stands there; in a list that rises each number is found at its own place.
 -- Assumes nothing.
 use mathlib.Core.Path.{◌≡◌, refl, sym, ap, ◌∙◌}
 use mathlib.Core.Bool.{Bool, true, false, cond}
@@ -6,23 +6,31 @@ use mathlib.Core.List.{List, [], ◌∷◌}
 use Prim.Native.Nat.{ℕ, zero, suc, ◌+◌, ◌-◌, ◌≤◌, ◌<◌}
 use native.Mathlib.Omega.{arith}
 use lib.Dec.{T, eqb}
-use lib.ListN.{length, drop, get_or, drop_of_length-le}
-use lib.Seq.{drop-cons}
+use lib.ListN.{length, get_or}
+use Rattle.std.specs.Prelude.{Option, Some, None, position}
+use Rattle.std.specs.List.{position_from}
+use Rattle.std.proofs.lemmas.Iterator.Adapters.{position_from-zero}
 use borrow.Author.Tests.{eq-eqb, ne_eqb, eqb-true}
 use Rattle.refusals.specs.Refusal.{Answer, value, refused, no}
 use Rattle.wiring.specs.Questions.{cell_from}
 use Rattle.wiring.proofs.Rising.{rising, rising_tail, rising_order}
 
--- ---- place by place
-module _ (l : List ℕ) (k input : ℕ) where
-  pub found_here : k < length l → get_or l k 0 ≡ input → cell_from (suc k) (drop k l) input ≡ value (suc k)
-  found_here h e = rw (drop-cons l k 0 h, eq-eqb input (get_or l k 0) (sym e))
+-- ---- as the code looks for it: by its place, from 0
+abbrev pub cell_at : Option ℕ → Answer ℕ
+cell_at (Some k) = value (k + 1)
+cell_at None = refused (no 21 [])
 
-  pub not_here : k < length l → (get_or l k 0 ≡ input → ⊥) → cell_from (suc k) (drop k l) input ≡ cell_from (suc (suc k)) (drop (suc k) l) input
-  not_here h other = rw (drop-cons l k 0 h, ne_eqb input (get_or l k 0) (λ e. other (sym e)))
+placed : (l : List ℕ) (k s input : ℕ) → s ≡ k + 1 → cell_from s l input ≡ cell_at (position_from (λ i. eqb input i) k l)
+placed [] k s input e = refl
+placed (i ∷ l) k s input e = by_test (eqb input i) (placed l (k + 1) (suc s) input (omega arith))
+  where
+    by_test : (t : Bool) → cell_from (suc s) l input ≡ cell_at (position_from (λ i. eqb input i) (k + 1) l)
+        → cond t (value s) (cell_from (suc s) l input) ≡ cell_at (cond t (Some k) (position_from (λ i. eqb input i) (k + 1) l))
+    by_test true later = ap value e
+    by_test false later = later
 
-  pub nowhere : length l ≤ k → cell_from (suc k) (drop k l) input ≡ refused (no 21 [])
-  nowhere h = ap (λ (rest : List ℕ). cell_from (suc k) rest input) (drop_of_length-le l h)
+pub by_position : (l : List ℕ) (input : ℕ) → cell_from 1 l input ≡ cell_at (position (λ i. eqb input i) l)
+by_position l input = placed l 0 1 input refl ∙ ap cell_at (sym (position_from-zero (λ i. eqb input i) l))
 
 -- ---- in a list that rises
 pub finds : (low high : ℕ) (l : List ℕ) → T (rising low high l) → (s k : ℕ) → k < length l → cell_from s l (get_or l k 0) ≡ value (s + k)
