@@ -1,2 +1,2 @@
 pub mod Example
-mod Stages
+mod Made

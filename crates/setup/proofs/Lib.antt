@@ -1,3 +1,3 @@
 pub mod Agree
-mod Seq
+pub mod Seq
 mod ByLink

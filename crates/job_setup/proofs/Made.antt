@@ -1,0 +1,38 @@
+-- What `new` leaves is known by its answer: where it refuses a device of size 0; and it is sound just where it does not.
+-- Assumes nothing.
+use mathlib.Core.Path.{◌≡◌, refl}
+use mathlib.Core.Bool.{Bool, true, false}
+use Prim.Native.Nat.{ℕ}
+use Rattle.refusals.specs.Refusal.{Answer, value, refused, nine}
+use Rattle.bus.specs.Raw.{Done}
+use Rattle.bq769x0.specs.Record.{leaving, device_allowed, accepts, is_sound, leaves, fresh, made_by, new_for}
+use Rattle.bq769x0.specs.declared.BQ769x0.{BQ769x0}
+use Rattle.bq769x0.proofs.Keeps.{new_sound}
+use Rattle.job_setup.specs.JobInit.{no_device}
+
+pub none_made : new_for 0 0 0 false ≡ leaving no_device nine
+unfolding new_for device_allowed
+none_made = refl
+
+abbrev pub left_by : Answer Done → BQ769x0 → BQ769x0
+left_by (value done) d = d
+left_by (refused r) d = no_device
+
+pub left_is : (x address n : ℕ) (check : Bool)
+    → (new_for x address n check).device ≡ left_by (new_for x address n check).answer (fresh x address n check)
+unfolding new_for
+left_is x address n check = by (device_allowed x address n)
+  where
+    by : (y : Answer Done) → (made_by y (fresh x address n check)).device ≡ left_by (made_by y (fresh x address n check)).answer (fresh x address n check)
+    by (value done) = refl
+    by (refused r) = refl
+
+pub sound_is : (x address n : ℕ) (check : Bool)
+    → is_sound (new_for x address n check).device ≡ accepts (new_for x address n check).answer
+unfolding new_for is_sound device_allowed
+sound_is x address n check = by (device_allowed x address n) (λ d e. new_sound x address n check e refl)
+  where
+    by : (y : Answer Done) → ((d : BQ769x0) → leaves (value tt) d ≡ made_by y (fresh x address n check) → is_sound d ≡ true)
+        → is_sound (made_by y (fresh x address n check)).device ≡ accepts (made_by y (fresh x address n check)).answer
+    by (value done) sound = sound (fresh x address n check) refl
+    by (refused r) sound = refl
