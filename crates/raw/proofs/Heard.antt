@@ -4,6 +4,7 @@ use mathlib.Core.Path.{◌≡◌, refl, sym, ap, subst, ◌∙◌}
 use mathlib.Core.Bool.{Bool, true, false, ◌&&◌}
 use Prim.Native.Nat.{ℕ, suc, ◌+◌, ◌-◌, ◌≤◌, ◌<◌}
 use mathlib.Core.List.{List, [], ◌∷◌}
+use Rattle.std.specs.Prelude.{Ok, Err}
 use native.Mathlib.Numerals.{add-one, add-two, add-three}
 use native.Mathlib.Omega.{arith}
 use lib.ListN.{length, take, drop, get_or, length-drop}
@@ -19,17 +20,12 @@ use Rattle.laws.specs.Choice.{when◌then◌else◌}
 use Rattle.fields.specs.Fields.{unfield}
 use Rattle.bus.specs.Transfers.{Outcome, done, fault, stopped, untape, says}
 use Rattle.bus.proofs.Order.{ended}
-use Rattle.raw.specs.Inside.{judged, outcome_of, Within, Heard}
-use Rattle.raw.specs.declared.transfer.Reply.TheVariants.{Made, Stopped}
+use Rattle.raw.specs.Inside.{made, whole, judged, outcome_of, Few, Within, Heard}
 
 -- ---- a reply within its bounds
-pub few : (want room : ℕ) (f : Bool) (n : ℕ) → Within want room (Made f n) → n ≤ want
-few want room true n h = h.0
-few want room false n h = omega (arith, h.0)
-
-pub fitting : (want room : ℕ) (f : Bool) (n : ℕ) → Within want room (Made f n) → 3 + n ≤ room
-fitting want room true n h = h.1
-fitting want room false n h = h.1
+pub few : (want : ℕ) (f : Bool) (n : ℕ) → Few f n want → n ≤ want
+few want true n h = h
+few want false n h = omega (arith, h)
 
 -- ---- 15
 pub says_short : (want : ℕ) (l : List ℕ) → 0 < length l → length l < 3 → says want l ≡ stopped (no 15 [])
@@ -55,7 +51,7 @@ module _ (want tag high low : ℕ) (bytes : List ℕ) where
   is_fault = eqb tag 0x02 && leb len want
 
   by_tag : (v : List ℕ) → take len bytes ≡ v → (a b : Bool)
-      → outcome_of (when a then Made false len else when b then Made true len else Stopped E.BadTape) bytes
+      → outcome_of (when a then made false len else when b then made true len else Err E.BadTape) bytes
       ≡ (when a then done v else when b then fault v else stopped (no 15 []))
   by_tag v e true b = ap done e
   by_tag v e false true = ap fault e
@@ -63,7 +59,7 @@ module _ (want tag high low : ℕ) (bytes : List ℕ) where
 
   within : len ≤ length bytes → (a b : Bool) → (T a → T is_done) → (T b → T is_fault)
       → Within want (suc (suc (suc (length bytes))))
-      (when a then Made false len else when b then Made true len else Stopped E.BadTape)
+      (when a then made false len else when b then made true len else Err E.BadTape)
   unfolding is_done is_fault
   within h true b d f =
       (eqb→eq len want (both_right (eqb tag 0x01) (eqb len want) (d tt)), omega arith)
@@ -112,14 +108,14 @@ module _ (want at : ℕ) (l : List ℕ) where
   -- a field that is whole, and says that all was done
   pub at_done : (len : ℕ) → len ≡ said_len → at ≤ length l → want + 3 ≤ length l - at
       → eqb (get_or l at 0) 0x01 && eqb len want ≡ true
-      → Heard want (drop at l) (says want (drop at l)) (Made false want)
+      → Heard want (drop at l) (says want (drop at l)) (whole want)
   at_done len is h k e =
       let all : len ≡ want = eqb→eq len want (both_right (eqb (get_or l at 0) 0x01) (eqb len want) (subst T (sym e) tt)) in
-      let told : judged want (get_or l at 0) len ≡ Made false want = rw e (ap (Made false) all) in
+      let told : judged want (get_or l at 0) len ≡ whole want = rw e (ap whole all) in
       subst (Heard want (drop at l) (says want (drop at l))) (ap (judged want (get_or l at 0)) (sym is) ∙ told)
       (at_whole (omega arith) (omega (arith, is)))
 
 -- a reply that stops, from the number that the tape's rest, or the log's room, gives
 pub stops : (want : ℕ) (rest : List ℕ) (answer : Outcome) (e : Error) → answer ≡ stopped (as_refusal e)
-    → Heard want rest answer (Stopped e)
+    → Heard want rest answer (Err e)
 stops want rest answer e said = record { said = sym said; within = tt }

@@ -14,65 +14,16 @@ use Rattle.laws.proofs.Tests.{both_right}
 use borrow.Author.Tests.{ne_eqb}
 use Rattle.check_byte.specs.CheckByte.{check_byte}
 use Rattle.refusals.specs.Refusal.{Answer, value}
-use Rattle.refusals.specs.declared.Error.{Error}
 use Rattle.frames.specs.Frames.{read_byte, right, data_of, write_frame}
 use Rattle.frames.specs.Put.{put}
 use Rattle.frames.proofs.Put.{put_all}
-use Rattle.bus.specs.Transfers.{Transfer, read, write, Bus, bus_of}
-use Rattle.bus.specs.Programs.{Prog, Ran, ran, on_tape}
-use Rattle.bus.specs.Raw.{Done, sound, refuses, Read, gives, read_raw, ask_back, send, write_raw}
-use Rattle.bus.specs.declared.Cursor.{Cursor}
+use Rattle.bus.specs.Transfers.{Transfer, read, write, Bus, outcome, after}
+use Rattle.bus.specs.Programs.{Prog, ends, on_tape}
+use Rattle.bus.specs.Raw.{Done, sound, refuses, Read, gives, compared, read_raw, ask_back, send, write_raw}
 use Rattle.bus.specs.declared.link.Link.{Link}
 use Rattle.bus.proofs.Raws.{zeros, checked_goes, read_checked, read_plain, send_goes, write_done, write_back}
-use Rattle.raw.specs.Inside.{answer_to, taken, further, Reaches, ReadBy, WrittenBy, GotBy, SentBy, EchoedBy}
-use Rattle.raw.specs.declared.transfer.Moved.{Moved}
-use Rattle.raw.specs.declared.transfer.Reply.{Reply}
-use Rattle.raw.specs.declared.transfer.Reply.TheVariants.{Made, Stopped}
-use Rattle.raw.proofs.Asked.{plain_read_is, taken_wrong, taken_right, frame_read, write_sent}
-
--- ---- done, or nothing touched
-module _ (t : Transfer) (b : Bus) (buf buf' log' : List ℕ) where
-  pub is_got : (r : Bool) → r ≡ true → GotBy t b buf r buf' log' → GotBy t b buf true buf' log'
-  is_got true e g = g
-  is_got false e g = absurd (subst T (sym e) tt)
-
-  pub buf_kept : (r : Bool) → r ≡ false → GotBy t b buf r buf' log' → buf' ≡ buf
-  buf_kept true e g = absurd (subst T e tt)
-  buf_kept false e g = g.0
-
-  pub log_kept : (r : Bool) → r ≡ false → GotBy t b buf r buf' log' → log' ≡ b.log
-  log_kept true e g = absurd (subst T e tt)
-  log_kept false e g = g.1
-
-module _ (t : Transfer) (b : Bus) (n : ℕ) (log' : List ℕ) where
-  pub is_sent : (r : Bool) → r ≡ true → SentBy t b n r log' → SentBy t b n true log'
-  is_sent true e g = g
-  is_sent false e g = absurd (subst T (sym e) tt)
-
-  pub not_sent : (r : Bool) → r ≡ false → SentBy t b n r log' → log' ≡ b.log
-  not_sent true e g = absurd (subst T e tt)
-  not_sent false e g = g
-
-module _ (t u : Transfer) (b : Bus) (n : ℕ) (back back' log' : List ℕ) where
-  pub is_echoed : (r : Bool) → r ≡ true → EchoedBy t u b n back r back' log' → EchoedBy t u b n back true back' log'
-  is_echoed true e g = g
-  is_echoed false e g = absurd (subst T (sym e) tt)
-
-  pub not_echoed : (r : Bool) → r ≡ false → EchoedBy t u b n back r back' log' → log' ≡ b.log
-  not_echoed true e g = absurd (subst T e tt)
-  not_echoed false e g = g.1
-
--- ---- nothing touched: the program is done from the same bus
-pub from_same : {A : Type 0} (p : Prog A) (b : Bus) {log' : List ℕ} {x : Ran A} → log' ≡ b.log
-    → x ≡ on_tape p (bus_of b.tape log' b.at) → x ≡ on_tape p b
-from_same p b e w = w ∙ ap (λ (l : List ℕ). on_tape p (bus_of b.tape l b.at)) e
-
-pub read_same : (s : Link) (reg : ℕ) (bytes held : List ℕ) (b : Bus) → held ≡ bytes
-    → {log' log'' buf : List ℕ} {a : Answer Done} {at : Cursor} → log' ≡ b.log
-    → ran (gives a buf) b.tape log'' at ≡ on_tape (read_raw s reg held) (bus_of b.tape log' b.at)
-    → ran (gives a buf) b.tape log'' at ≡ on_tape (read_raw s reg bytes) b
-read_same s reg bytes held b same e w =
-    from_same (read_raw s reg held) b e w ∙ ap (λ (l : List ℕ). on_tape (read_raw s reg l) b) same
+use Rattle.raw.specs.Inside.{Reply, whole, taken, ReadBy, SentBy, EchoedBy}
+use Rattle.raw.proofs.Asked.{plain_read_is, taken_wrong, taken_right, frame_read, back_on, write_sent}
 
 -- ---- a list of one and of two, spelled out
 past : (l : List ℕ) (i : ℕ) → length l ≤ i → drop i l ≡ []
@@ -123,14 +74,14 @@ data_two (x ∷ []) s = absurd (omega arith)
 data_two (x ∷ y ∷ frame) s = ap (λ (l : List ℕ). x ∷ l) (data_one frame (omega arith))
 
 -- what such a frame gives
-module _ (address : ℕ) (buf frame : List ℕ) (n : ℕ) where
-  pub frame_wrong : right (read_byte address ∷ []) frame ≡ false → gives (refuses 1) buf ≡ taken address buf frame (Made false n)
-  frame_wrong e = sym (taken_wrong address buf frame false n e)
+module _ (address : ℕ) (buf frame : List ℕ) where
+  pub frame_wrong : right (read_byte address ∷ []) frame ≡ false → gives (refuses 1) buf ≡ taken address buf frame false
+  frame_wrong e = sym (taken_wrong address buf frame false e)
 
   pub frame_right : {v : List ℕ} → right (read_byte address ∷ []) frame ≡ true → data_of frame ≡ v → length buf ≤ length v
-      → gives (value tt) v ≡ taken address buf frame (Made false n)
+      → gives (value tt) v ≡ taken address buf frame false
   frame_right {v} e d s =
-      sym (taken_right address buf frame n e ∙ ap (gives (value tt)) (ap (put buf 0) d ∙ put_all buf v s))
+      sym (taken_right address buf frame e ∙ ap (gives (value tt)) (ap (put buf 0) d ∙ put_all buf v s))
 
 -- a device has at least five inputs
 pub five : (s : Link) → sound s ≡ true → 5 ≤ s.x
@@ -163,92 +114,68 @@ module _ (zeros frame : List ℕ) (k : ℕ) (size : length frame ≡ k) where
       let none : 0 + k ≡ k = omega arith in
       rw (in_front_is, size, none)
 
--- a reply that the transfer was made gives the same for any count of bytes
-taken_any : (address : ℕ) (buf frame : List ℕ) (f : Bool) (n m : ℕ)
-    → taken address buf frame (Made f n) ≡ taken address buf frame (Made f m)
-unfolding taken
-taken_any address buf frame true n m = refl
-taken_any address buf frame false n m = refl
-
--- so for a frame that was read into an array's zeros
-pub taken_front : (address : ℕ) (buf zeros frame : List ℕ) (k : ℕ) (f : Bool) (n m : ℕ) {a : Answer Done} {bytes : List ℕ}
-    → length frame ≡ k → gives a bytes ≡ taken address buf (take k (frame ++ drop k zeros)) (Made f n)
-    → gives a bytes ≡ taken address buf frame (Made f m)
-taken_front address buf zeros frame k f n m size e =
-    e
-    ∙ ap (λ (l : List ℕ). taken address buf l (Made f n)) (in_front_is zeros frame k size)
-    ∙ taken_any address buf frame f n m
-
--- and one that it was not, its refusal
-pub taken_stopped : (address : ℕ) (buf frame : List ℕ) {r : Reply} {e : Error} → r ≡ Stopped e
-    → gives (answer_to r) buf ≡ taken address buf frame r
-unfolding taken
-taken_stopped address buf frame {r} {e} h =
-    subst (λ (q : Reply). gives (answer_to q) buf ≡ taken address buf frame q) (sym h) refl
+-- so for what a frame gives that was read into an array's zeros
+pub taken_front : (address : ℕ) (buf zeros frame : List ℕ) (k : ℕ) (f : Bool) {x : Read}
+    → length frame ≡ k → x ≡ taken address buf (take k (frame ++ drop k zeros)) f
+    → x ≡ taken address buf frame f
+taken_front address buf zeros frame k f size e =
+    e ∙ ap (λ (l : List ℕ). taken address buf l f) (in_front_is zeros frame k size)
 
 -- a read into zeros, two for each of n bytes
-pub into_zeros : {address reg : ℕ} {b : Bus} {frame log : List ℕ} {m : Moved} (zero : List ℕ) (n : ℕ) → zero ≡ replicate (2 * n) 0
-    → ReadBy (read address reg (length zero)) b zero m frame log
-    → ReadBy (read address reg (2 * n)) b (replicate (2 * n) 0) m frame log
+pub into_zeros : {address reg : ℕ} {b b' : Bus} {frame : List ℕ} {r : Reply} (zero : List ℕ) (n : ℕ) → zero ≡ replicate (2 * n) 0
+    → ReadBy (read address reg (length zero)) zero r frame b b'
+    → ReadBy (read address reg (2 * n)) (replicate (2 * n) 0) r frame b b'
 into_zeros zero n e r = rw (e, length-replicate {A = ℕ} (2 * n) 0) at r
 
 -- ---- reading
-module _ (s : Link) (reg : ℕ) (buf : List ℕ) (b : Bus) (ok : sound s ≡ true) (within : reg + length buf ≤ 256) where
-  pub read_well : {buf' log' : List ℕ} → s.check ≡ false
-      → GotBy (read s.address reg (length buf)) b buf true buf' log'
-      → ran (gives (value tt) buf') b.tape log' (further b.at (3 + length buf) 7) ≡ on_tape (read_raw s reg buf) b
-  read_well c g = plain_read_is s reg buf b within _ _ _ g.0 ∙ read_plain s reg buf b ok c
+module _ (s : Link) (reg : ℕ) (buf : List ℕ) {b b' : Bus} (ok : sound s ≡ true) (within : reg + length buf ≤ 256) where
+  pub read_well : {buf' : List ℕ} → s.check ≡ false
+      → ReadBy (read s.address reg (length buf)) buf (whole (length buf)) buf' b b'
+      → ends (gives (value tt) buf') b' ≡ on_tape (read_raw s reg buf) b
+  read_well c g = plain_read_is s reg buf b within _ refl g ∙ read_plain s reg buf b ok c
 
   -- into a frame that is zero before
-  pub frame_well : {zeros frame log' : List ℕ} (x : Read) → s.check ≡ true → length buf ≤ 2 * s.x → (length buf ≡ 0 → ⊥)
+  pub frame_well : {zeros frame : List ℕ} {n : ℕ} {x : Read} → s.check ≡ true → length buf ≤ 2 * s.x → (length buf ≡ 0 → ⊥)
       → zeros ≡ replicate (2 * length buf) 0
-      → GotBy (read s.address reg (length zeros)) b zeros true frame log'
-      → x ≡ taken s.address buf frame (Made false (length zeros))
-      → ran x b.tape log' (further b.at (3 + length zeros) 7) ≡ on_tape (read_raw s reg buf) b
-  frame_well {zeros} {frame} {log'} x c few some z g e =
-      let m : Moved = record { reply = Made false (length zeros); at = further b.at (3 + length zeros) 7 } in
-      frame_read s.address reg buf b m frame log' x e (into_zeros zeros (length buf) z g.0)
+      → ReadBy (read s.address reg (length zeros)) zeros (whole n) frame b b'
+      → x ≡ taken s.address buf frame false
+      → ends x b' ≡ on_tape (read_raw s reg buf) b
+  frame_well {zeros} {frame} {n} c few some z g e =
+      frame_read s.address reg buf false n e (into_zeros zeros (length buf) z g)
       ∙ checked_goes s reg buf b few some within
       ∙ read_checked s reg buf b ok c
 
   -- so where it is the first part of k zeros
-  module _ (k : ℕ) (most : 2 * length buf ≤ k) where
-    abbrev front : List ℕ
-    front = take (2 * length buf) (replicate k 0)
-
-    front_size : length front ≡ 2 * length buf
-    front_size = ap length (zeros (2 * length buf) k most) ∙ length-replicate (2 * length buf) 0
-
-    module _ {frame log' : List ℕ} (g : GotBy (read s.address reg (length front)) b front true frame log') where
-      pub front_reaches : Reaches b (3 + 2 * length buf) 7
-      front_reaches = subst (λ (n : ℕ). Reaches b (3 + n) 7) front_size g.1
-
-      pub front_well : {x : Read} → s.check ≡ true → length buf ≤ 2 * s.x → (length buf ≡ 0 → ⊥)
-          → x ≡ taken s.address buf frame (Made false (length front))
-          → ran x b.tape log' (further b.at (3 + 2 * length buf) 7) ≡ on_tape (read_raw s reg buf) b
-      front_well {x} c few some e =
-          subst (λ (n : ℕ). ran x b.tape log' (further b.at (3 + n) 7) ≡ on_tape (read_raw s reg buf) b) front_size
-          (frame_well x c few some (zeros (2 * length buf) k most) g e)
+  pub front_well : (k : ℕ) → 2 * length buf ≤ k → {frame : List ℕ} {n : ℕ} {x : Read}
+      → s.check ≡ true → length buf ≤ 2 * s.x → (length buf ≡ 0 → ⊥)
+      → (let front : List ℕ = take (2 * length buf) (replicate k 0) in ReadBy (read s.address reg (length front)) front (whole n) frame b b')
+      → length frame ≡ 2 * length buf
+      → x ≡ taken s.address buf (take (2 * length buf) (frame ++ drop (2 * length buf) (replicate k 0))) false
+      → ends x b' ≡ on_tape (read_raw s reg buf) b
+  front_well k most {frame} c few some g size e =
+      frame_well c few some (zeros (2 * length buf) k most) g (taken_front s.address buf (replicate k 0) frame (2 * length buf) false size e)
 
 -- ---- writing
-module _ (s : Link) (reg : ℕ) (bytes frame : List ℕ) (b : Bus) {log' : List ℕ} (ok : sound s ≡ true)
-    (few : length bytes ≤ 8) (some : length bytes ≡ 0 → ⊥) (within : reg + length bytes ≤ 256)
-    (is : frame ≡ write_frame s.check s.address reg bytes)
-    (sent : SentBy (write s.address frame) b (length frame) true log') where
-  abbrev after : Bus
-  after = bus_of b.tape log' (further b.at 3 (4 + length frame))
-
-  move : Moved
-  move = record { reply = Made false 0; at = further b.at 3 (4 + length frame) }
-
-  went : record { answer = value tt; bus = after } ≡ on_tape (send s reg bytes) b
-  unfolding move
-  went =
-      write_sent s reg bytes b move log' (subst (λ (l : List ℕ). WrittenBy (write s.address l) b move log') is sent.0)
+module _ (s : Link) (reg : ℕ) (bytes frame : List ℕ) {b b' : Bus} (ok : sound s ≡ true)
+    (few : length bytes ≤ 8) (some : length bytes ≡ 0 → ⊥) (within : reg + length bytes ≤ 256) where
+  went : {check : Bool} → s.check ≡ check → frame ≡ write_frame check s.address reg bytes
+      → SentBy (write s.address frame) true b b' → ends (value tt) b' ≡ on_tape (send s reg bytes) b
+  went c is sent =
+      write_sent s reg bytes frame (whole 0) refl (is ∙ ap (λ (k : Bool). write_frame k s.address reg bytes) (sym c)) sent
       ∙ send_goes s reg bytes b ok few some within
 
-  pub sent_well : s.check ≡ true → ran (value tt) b.tape log' (further b.at 3 (4 + length frame)) ≡ on_tape (write_raw s reg bytes) b
-  sent_well c = write_done s reg bytes b after (value tt) went refl (rw c)
+  pub sent_well : s.check ≡ true → frame ≡ write_frame true s.address reg bytes
+      → SentBy (write s.address frame) true b b' → ends (value tt) b' ≡ on_tape (write_raw s reg bytes) b
+  sent_well c is sent = write_done s reg bytes b b' (value tt) (went c is sent) refl (rw c)
 
-  pub sent_back : s.check ≡ false → on_tape (ask_back s.address reg bytes) after ≡ on_tape (write_raw s reg bytes) b
-  sent_back c = write_back s reg bytes b after (value tt) went refl (rw (c, ne_eqb _ _ some))
+-- without checks what was written is read back and compared
+module _ (s : Link) (reg : ℕ) (bytes frame : List ℕ) {b b' : Bus} (ok : sound s ≡ true)
+    (few : length bytes ≤ 8) (some : length bytes ≡ 0 → ⊥) (within : reg + length bytes ≤ 256) where
+  pub echoed_well : (back : List ℕ) {back' : List ℕ} {x : Answer Done} → s.check ≡ false → frame ≡ write_frame false s.address reg bytes
+      → EchoedBy (write s.address frame) (read s.address reg (length back)) back true back' b b'
+      → length back ≡ length bytes → length back' ≡ length back → x ≡ compared reg bytes back'
+      → ends x b' ≡ on_tape (write_raw s reg bytes) b
+  echoed_well back c is (sent, back_read) size kept e =
+      let between = after (write s.address frame) (outcome (write s.address frame) b) b in
+      back_on s.address reg bytes back size _ kept back_read refl e
+      ∙ write_back s reg bytes b between (value tt) (went s reg bytes frame ok few some within c is sent) refl (rw (c, ne_eqb _ _ some))

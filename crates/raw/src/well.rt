@@ -2,7 +2,7 @@
 ghost use Rattle.std.specs.Prelude.{◌≡◌, ◌+◌, ◌≤◌, length, drop, true};
 ghost use Rattle.bus.specs.Transfers.{read, write, says, outcome};
 ghost use Rattle.bus.specs.Lent.{held};
-ghost use Rattle.raw.specs.Inside.{Heard, whole, ReadWhole, GotBy, SentBy, EchoedBy, leaves};
+ghost use Rattle.raw.specs.Inside.{Heard, whole, ReadBy, WrittenBy, GotBy, SentBy, EchoedBy, leaves};
 
 use crate::transfer;
 use bus::{Bus, Cursor};
@@ -83,7 +83,10 @@ pub(crate) fn echoed(address: u8, reg: u8, frame: &[u8], back: &mut [u8], bus: &
     let from = bus.at.tape;
     let room = transfer::has_room(bus.log.len(), bus.at.log, 4 + frame.len() + 7)
         & transfer::has_room(bus.tape.len(), from, back.len() + 6);
-    let can = room && is_done(bus.tape, from, 0) & is_done(bus.tape, from + 3, back.len());
+    if !room {
+        return false;
+    }
+    let can = is_done(bus.tape, from, 0) & is_done(bus.tape, from + 3, back.len());
     if can {
         put(address, frame, bus);
         take(address, reg, back, bus);

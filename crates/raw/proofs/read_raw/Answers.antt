@@ -4,11 +4,10 @@ use Rattle.std.proofs.Common.{ℕ, List, Bool, true, ◌≡◌, ◌+◌, ◌*◌
 use mathlib.Core.Bool.{not, and-eq-true_iff}
 use lib.Seq.{length-take-le}
 use borrow.Author.Tests.{leb-true, eqb-false, not-true, not-false}
-use Rattle.bus.specs.Transfers.{bus_of}
 use Rattle.bus.specs.Raw.{sound}
 use Rattle.bus.specs.declared.link.Link.{Link}
 use Rattle.bus.proofs.Raws.{sound_x}
-use Rattle.raw.proofs.Quick.{among_zeros, taken_front, read_well, front_well}
+use Rattle.raw.proofs.Quick.{among_zeros, read_well, front_well}
 use Rattle.raw.proofs.read_raw.Goals as goal
 
 -- sound, and the registers within the chip's
@@ -31,16 +30,15 @@ pub returns-then-got : goal.returns-then-got
 returns-then-got c =
     let a = c.args in
     let fit = fits a.link _ a.reg_address (length a.«data».now) c.is_sound.ensures c.if-is_sound-reg_address.true in
-    rw c.further.ensures
-    (read_well a.link a.reg_address a.«data».now (bus_of a.tape.now a.log.now a.at) fit.0 fit.1 (not-true _ c.if-not-link.true) c.if-got.ensures)
+    (read_well a.link a.reg_address a.«data».now fit.0 fit.1 (not-true _ c.if-not-link.true) c.if-got.ensures.0, c.if-got.ensures.1)
 
 pub take_frame-requires-clause-frame_value : goal.take_frame-requires-clause-frame_value
 take_frame-requires-clause-frame_value c =
     let a = c.args in
     let m = length a.«data».now in
-    let g = c.got-then-n-x in
+    let g = c.got-then-n-link in
     let fit = fits a.link _ a.reg_address m c.is_sound.ensures c.if-is_sound-reg_address.true in
-    let few = counts m a.link.x c.if-n-x.true in
+    let few = counts m a.link.x c.if-n-link.true in
     let most : m ≤ 30 = omega (arith, few.1, sound_x a.link fit.0) in
     among_zeros (replicate 66 0) g.new.buf (2 * m) (size m g.new.buf most g.auto.buf)
 
@@ -48,11 +46,11 @@ pub returns-then-got-2 : goal.returns-then-got-2
 returns-then-got-2 c =
     let a = c.args in
     let m = length a.«data».now in
-    let g = c.got-then-n-x in
+    let g = c.got-then-n-link in
     let fit = fits a.link _ a.reg_address m c.is_sound.ensures c.if-is_sound-reg_address.true in
-    let few = counts m a.link.x c.if-n-x.true in
-    let most : m ≤ 30 = omega (arith, few.1, sound_x a.link fit.0) in
-    rw c.further-then-got-2.ensures
-    (front_well a.link a.reg_address a.«data».now (bus_of a.tape.now a.log.now a.at) fit.0 fit.1 66 (omega arith) c.if-got-2.ensures
-    (not-false _ c.if-not-link.false) few.1 few.0
-    (taken_front a.link.address a.«data».now (replicate 66 0) g.new.buf (2 * m) _ (2 * m) _ (size m g.new.buf most g.auto.buf) c.take_frame.ensures))
+    let few = counts m a.link.x c.if-n-link.true in
+    let most : m ≤ 30 = omega (arith, few.1, sound_x a.link fit.0) in (
+      front_well a.link a.reg_address a.«data».now fit.0 fit.1 66 (omega arith) (not-false _ c.if-not-link.false) few.1 few.0 c.if-got-2.ensures.0
+          (size m g.new.buf most g.auto.buf) c.take_frame.ensures,
+      c.if-got-2.ensures.1,
+    )

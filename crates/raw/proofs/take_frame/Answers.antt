@@ -5,7 +5,7 @@ use lib.ListN.{length-take}
 use lib.Seq.{length-take-le}
 use Rattle.frames.specs.Frames.{read_byte, right, data_of}
 use Rattle.frames.specs.Put.{put}
-use Rattle.frames.proofs.Put.{length_put}
+use Rattle.frames.proofs.Put.{length_put, put_all}
 use Rattle.frames.proofs.Padded.{padded_right, padded_data}
 use Rattle.refusals.specs.Refusal.{value}
 use Rattle.bus.specs.Raw.{gives}
@@ -40,7 +40,7 @@ returns-then-not-taken c =
     let a = c.args in
     let q = c.requires in
     let n = length a.«data».now in
-    sym (taken_wrong a.address _ (take (2 * n) a.frame.now) a.fault (2 * n)
+    sym (taken_wrong a.address _ (take (2 * n) a.frame.now) a.fault
     (sym (tested a.frame.now n q.in_bounds.0 q.in_bounds.1 q.frame_value a.address _ c.taken.ensures.0) ∙ c.if-not-taken.true))
 
 pub returns-then-fault : goal.returns-then-fault
@@ -49,7 +49,7 @@ returns-then-fault c =
     let q = c.requires in
     let n = length a.«data».now in
     rw c.if-fault.true
-    (sym (taken_fault a.address _ (take (2 * n) a.frame.now) (2 * n)
+    (sym (taken_fault a.address _ (take (2 * n) a.frame.now)
     (sym (tested a.frame.now n q.in_bounds.0 q.in_bounds.1 q.frame_value a.address _ c.taken.ensures.0) ∙ c.if-not-taken.false)))
 
 pub returns : goal.returns
@@ -57,8 +57,9 @@ returns c =
     let a = c.args in
     let q = c.requires in
     let n = length a.«data».now in
+    let is = c.copy_from_slice.ensures.after
+    ∙ carried a.frame.now n q.in_bounds.0 q.in_bounds.1 q.frame_value _ (rw c.if-not-taken.false at c.taken.ensures.1) in
     rw c.if-fault.false
-    (ap (gives (value tt)) (c.deliver.ensures
-    ∙ ap (put a.«data».now 0) (carried a.frame.now n q.in_bounds.0 q.in_bounds.1 q.frame_value _ (rw c.if-not-taken.false at c.taken.ensures.1)))
-    ∙ sym (taken_right a.address _ (take (2 * n) a.frame.now) (2 * n)
+    (ap (gives (value tt)) (is ∙ sym (put_all a.«data».now _ (omega (arith, c.copy_from_slice.ensures.len, ap length is))))
+    ∙ sym (taken_right a.address _ (take (2 * n) a.frame.now)
     (sym (tested a.frame.now n q.in_bounds.0 q.in_bounds.1 q.frame_value a.address _ c.taken.ensures.0) ∙ c.if-not-taken.false)))

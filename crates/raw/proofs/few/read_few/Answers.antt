@@ -4,10 +4,9 @@ use Rattle.std.proofs.Common.{ℕ, List, Bool, true, ◌≡◌, ◌+◌, ◌*◌
 use mathlib.Core.Bool.{and-eq-true_iff}
 use lib.Seq.{length-take-le}
 use borrow.Author.Tests.{leb-true, not-true, not-false}
-use Rattle.bus.specs.Transfers.{bus_of}
 use Rattle.bus.specs.Raw.{sound}
 use Rattle.bus.specs.declared.link.Link.{Link}
-use Rattle.raw.proofs.Quick.{five, among_zeros, taken_front, read_well, front_well}
+use Rattle.raw.proofs.Quick.{five, among_zeros, read_well, front_well}
 use Rattle.raw.proofs.few.read_few.Goals as goal
 
 -- sound, and the registers within the chip's
@@ -27,8 +26,7 @@ pub returns-then-got : goal.returns-then-got
 returns-then-got c =
     let a = c.args in
     let fit = fits a.link _ a.reg (length a.«data».now) c.is_sound.ensures c.if-is_sound-reg.true in
-    rw c.further.ensures
-    (read_well a.link a.reg a.«data».now (bus_of a.tape.now a.log.now a.at) fit.0 fit.1 (not-true _ c.if-not-link.true) c.if-got.ensures)
+    (read_well a.link a.reg a.«data».now fit.0 fit.1 (not-true _ c.if-not-link.true) c.if-got.ensures.0, c.if-got.ensures.1)
 
 pub take_few-requires-clause-frame_value : goal.take_few-requires-clause-frame_value
 take_few-requires-clause-frame_value c =
@@ -43,8 +41,8 @@ returns-then-got-2 c =
     let a = c.args in
     let m = length a.«data».now in
     let g = c.got-then-n-ne0 in
-    let fit = fits a.link _ a.reg m c.is_sound.ensures c.if-is_sound-reg.true in
-    rw c.further-then-got-2.ensures
-    (front_well a.link a.reg a.«data».now (bus_of a.tape.now a.log.now a.at) fit.0 fit.1 6 (omega (arith, fit.2)) c.if-got-2.ensures
-    (not-false _ c.if-not-link.false) (omega (arith, fit.2, five a.link fit.0)) c.if-n-ne0.true
-    (taken_front a.link.address a.«data».now (replicate 6 0) g.new.buf (2 * m) _ (2 * m) _ (size m g.new.buf fit.2 g.auto.buf) c.take_few.ensures))
+    let fit = fits a.link _ a.reg m c.is_sound.ensures c.if-is_sound-reg.true in (
+      front_well a.link a.reg a.«data».now fit.0 fit.1 6 (omega (arith, fit.2)) (not-false _ c.if-not-link.false)
+          (omega (arith, fit.2, five a.link fit.0)) c.if-n-ne0.true c.if-got-2.ensures.0 (size m g.new.buf fit.2 g.auto.buf) c.take_few.ensures,
+      c.if-got-2.ensures.1,
+    )

@@ -6,7 +6,6 @@ use Rattle.check_byte.specs.CheckByte.{check_byte}
 use Rattle.frames.specs.Frames.{read_byte, right, data_of}
 use Rattle.frames.specs.Put.{put}
 use Rattle.frames.proofs.Padded.{right_among, data_among}
-use Rattle.frames.proofs.Put.{put_all}
 use Rattle.frames.proofs.Steps.{shifted_one}
 use Rattle.raw.proofs.Quick.{frame_wrong, frame_right}
 use Rattle.raw.proofs.Three.{right_three, data_three}
@@ -43,7 +42,7 @@ returns-then-not-first-second c =
     let n = length c.args.«data».now in
     let q = c.requires in
     let all : length p ≡ 6 = search rules in
-    frame_wrong _ _ (take (2 * n) p) _
+    frame_wrong _ _ (take (2 * n) p)
     (tested p n q.in_bounds.0 q.in_bounds.1 q.frame_value all c.args.address _ _ _ c.check_byte2.ensures c.check_byte1.ensures
     c.check_byte1-2.ensures
     ∙ c.if-not-first-second.true)
@@ -54,11 +53,9 @@ returns c =
     let n = length c.args.«data».now in
     let q = c.requires in
     let all : length p ≡ 6 = search rules in
-    let bytes : List ℕ = get_or p 0 0 ∷ get_or p 2 0 ∷ get_or p 4 0 ∷ [] in
-    let whole = length-take-le n bytes (omega (arith, q.in_bounds.1)) in
-    rw (c.deliver.ensures, put_all c.args.«data».now (take n bytes) (omega (arith, whole)))
-    (frame_right _ _ (take (2 * n) p) _
+    rw c.copy_from_slice.ensures.after
+    (frame_right _ _ (take (2 * n) p)
     (tested p n q.in_bounds.0 q.in_bounds.1 q.frame_value all c.args.address _ _ _ c.check_byte2.ensures c.check_byte1.ensures
     c.check_byte1-2.ensures
     ∙ c.if-not-first-second.false)
-    (data_is p n q.in_bounds.0 q.in_bounds.1 q.frame_value all) (omega (arith, whole)))
+    (data_is p n q.in_bounds.0 q.in_bounds.1 q.frame_value all) (omega (arith, c.copy_from_slice.ensures.len, ap length c.copy_from_slice.ensures.after)))

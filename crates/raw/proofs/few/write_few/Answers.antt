@@ -6,13 +6,11 @@ use mathlib.Core.Bool.{true, not, and-eq-true_iff}
 use lib.Seq.{length-take-le}
 use borrow.Author.Tests.{leb-true, eqb-false, not-true}
 use Rattle.frames.specs.Frames.{write_frame}
-use Rattle.bus.specs.Transfers.{read, write, bus_of}
 use Rattle.bus.specs.Raw.{sound, compared}
 use Rattle.bus.specs.declared.link.Link.{Link}
-use Rattle.raw.specs.Inside.{further, SentBy, EchoedBy}
-use Rattle.raw.proofs.Quick.{in_front_is}
+use Rattle.raw.proofs.Quick.{in_front_is, sent_well, echoed_well}
 use Rattle.raw.proofs.Three.{three, as_held, checked_part, plain_part}
-use Rattle.raw.proofs.Writes.{plain_frame, write_checked, write_plain}
+use Rattle.raw.proofs.Writes.{plain_frame}
 use Rattle.raw.proofs.few.write_few.Goals as goal
 
 -- sound, one to three bytes, and the registers within the chip's
@@ -45,7 +43,6 @@ first_are bytes x y z few e f g =
 pub returns-then-sent : goal.returns-then-sent
 returns-then-sent c =
     let a = c.args in
-    let b = bus_of a.tape.now a.log.now a.at in
     let bytes = a.«data».now in
     let n = length bytes in
     let fit = fits a.link _ a.reg n c.is_sound.ensures c.if-is_sound-reg.true in
@@ -53,43 +50,34 @@ returns-then-sent c =
     let y = c.byte_at-then-is_sound-reg.result in
     let z = c.byte_at-then-is_sound-reg-2.result in
     let whole : List ℕ = c.three_checked-frame.result in
-    let frame : List ℕ = take (1 + 2 * n) whole in
-    let all : length whole ≡ 7 = search rules in
-    let size : length frame ≡ 1 + 2 * n = length-take-le (1 + 2 * n) whole (omega (arith, fit.few)) in
-    let framed : frame ≡ write_frame true a.link.address a.reg bytes =
+    let framed : take (1 + 2 * n) whole ≡ write_frame true a.link.address a.reg bytes =
     ap (take (1 + 2 * n)) c.three_checked-frame.ensures
     ∙ checked_part a.link.address a.reg n (x ∷ y ∷ z ∷ [])
     ∙ ap (write_frame true a.link.address a.reg)
-    (first_are bytes x y z fit.few c.byte_at.ensures c.byte_at-then-is_sound-reg.ensures c.byte_at-then-is_sound-reg-2.ensures) in
-    let went : SentBy (write a.link.address frame) b (length frame) true c.sent.new.log = c.if-sent.ensures in
-    write_checked a.link a.reg bytes bytes b refl frame fit.ok fit.some (omega (arith, fit.few)) fit.within c.if-link.true framed went
-    (omega (arith, size)) c.further.ensures
+    (first_are bytes x y z fit.few c.byte_at.ensures c.byte_at-then-is_sound-reg.ensures c.byte_at-then-is_sound-reg-2.ensures) in (
+      sent_well a.link a.reg bytes _ fit.ok (omega (arith, fit.few)) (λ z. omega (arith, fit.some)) fit.within c.if-link.true framed
+          c.if-sent.ensures.0,
+      c.if-sent.ensures.1,
+    )
 
 pub returns-then-echoed : goal.returns-then-echoed
 returns-then-echoed c =
     let a = c.args in
-    let b = bus_of a.tape.now a.log.now a.at in
     let bytes = a.«data».now in
     let n = length bytes in
     let fit = fits a.link _ a.reg n c.is_sound.ensures c.if-is_sound-reg.true in
     let x = c.byte_at.result in
     let y = c.byte_at-then-is_sound-reg.result in
     let z = c.byte_at-then-is_sound-reg-2.result in
-    let frame : List ℕ = take (1 + n) (a.reg ∷ x ∷ y ∷ z ∷ []) in
-    let size : length frame ≡ 1 + n = length-take-le (1 + n) (a.reg ∷ x ∷ y ∷ z ∷ []) (omega (arith, fit.few)) in
-    let framed : frame ≡ a.reg ∷ bytes =
+    let framed : take (1 + n) (a.reg ∷ x ∷ y ∷ z ∷ []) ≡ a.reg ∷ bytes =
     plain_part a.link.address a.reg n (x ∷ y ∷ z ∷ [])
     ∙ ap (◌∷◌ a.reg)
     (first_are bytes x y z fit.few c.byte_at.ensures c.byte_at-then-is_sound-reg.ensures c.byte_at-then-is_sound-reg-2.ensures) in
-    let zero : List ℕ = take n (replicate 3 0) in
-    let none : length zero ≡ n = length-take-le n (replicate 3 0) fit.few in
+    let none = length-take-le n (replicate 3 0) fit.few in
     let back : List ℕ = c.echoed.new.back in
-    let back_size : length back ≡ n = c.echoed.auto.back ∙ none in
-    let back_is : take n (back ++ drop n (replicate 3 0)) ≡ back = in_front_is (replicate 3 0) back n back_size in
-    let went : EchoedBy (write a.link.address frame) (read a.link.address a.reg (length zero)) b (length frame) zero true back c.echoed.new.log =
-    c.if-echoed.ensures in
-    let near : 6 + n ≡ 3 + (3 + length zero) = omega (arith, none) in
-    let far : 12 + n ≡ 4 + length frame + 7 = omega (arith, size) in
-    write_plain a.link a.reg bytes bytes b refl frame fit.ok fit.some (omega (arith, fit.few)) fit.within {back = zero} {back' = back} c.if-link.false
-    (framed ∙ plain_frame a.link.address _ _) went none c.echoed.auto.back
-    (c.compare.ensures ∙ ap (compared a.reg bytes) back_is) (c.further-then-echoed.ensures ∙ ap₂ (further a.at) near far)
+    let back_is : take n (back ++ drop n (replicate 3 0)) ≡ back = in_front_is (replicate 3 0) back n (c.echoed.auto.back ∙ none) in (
+      echoed_well a.link a.reg bytes _ fit.ok (omega (arith, fit.few)) (λ z. omega (arith, fit.some)) fit.within _ c.if-link.false
+          (framed ∙ plain_frame a.link.address _ _) c.if-echoed.ensures.0 none c.echoed.auto.back
+          (c.compare.ensures ∙ ap (compared a.reg bytes) back_is),
+      c.if-echoed.ensures.1,
+    )

@@ -17,16 +17,13 @@ tested address r frame size e =
 pub returns-then-frame-check_byte2 : goal.returns-then-frame-check_byte2
 returns-then-frame-check_byte2 c =
     let a = c.args in
-    let size : length a.frame ≡ 2 = search rules in (
-      rw c.refuse.ensures.0 (frame_wrong _ _ a.frame 2 (tested a.address _ a.frame size c.check_byte2.ensures ∙ ne_eqb _ _ c.if-frame-check_byte2.true)),
-      c.refuse.ensures.1 ∙ c.further-next.ensures,
-    )
+    let size : length a.frame ≡ 2 = search rules in
+    frame_wrong _ _ a.frame (tested a.address _ a.frame size c.check_byte2.ensures ∙ ne_eqb _ _ c.if-frame-check_byte2.true)
 
 pub returns : goal.returns
 returns c =
     let a = c.args in
-    let size : length a.frame ≡ 2 = search rules in (
-      frame_right _ _ a.frame 2 (tested a.address _ a.frame size c.check_byte2.ensures ∙ eq-eqb _ _ c.if-frame-check_byte2.false)
-          (data_one a.frame size) (omega (arith, c.requires.0)),
-      c.further-next.ensures,
-    )
+    let size : length a.frame ≡ 2 = search rules in
+    let bytes : length a.«data».now ≡ 1 = search rules in
+    frame_right _ _ a.frame (tested a.address _ a.frame size c.check_byte2.ensures ∙ eq-eqb _ _ c.if-frame-check_byte2.false) (data_one a.frame size)
+    (omega (arith, bytes))

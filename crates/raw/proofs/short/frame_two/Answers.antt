@@ -17,17 +17,13 @@ tested address r s frame size e f =
 pub returns-then-not-first-second : goal.returns-then-not-first-second
 returns-then-not-first-second c =
     let a = c.args in
-    let size : length a.frame ≡ 4 = search rules in (
-      rw c.refuse.ensures.0
-          (frame_wrong _ _ a.frame 4 (tested a.address _ _ a.frame size c.check_byte2.ensures c.check_byte1.ensures ∙ c.if-not-first-second.true)),
-      c.refuse.ensures.1 ∙ c.further-next.ensures,
-    )
+    let size : length a.frame ≡ 4 = search rules in
+    frame_wrong _ _ a.frame (tested a.address _ _ a.frame size c.check_byte2.ensures c.check_byte1.ensures ∙ c.if-not-first-second.true)
 
 pub returns : goal.returns
 returns c =
     let a = c.args in
-    let size : length a.frame ≡ 4 = search rules in (
-      frame_right _ _ a.frame 4 (tested a.address _ _ a.frame size c.check_byte2.ensures c.check_byte1.ensures ∙ c.if-not-first-second.false)
-          (data_two a.frame size) (omega (arith, c.requires.0)),
-      c.further-next.ensures,
-    )
+    let size : length a.frame ≡ 4 = search rules in
+    let bytes : length a.«data».now ≡ 2 = search rules in
+    frame_right _ _ a.frame (tested a.address _ _ a.frame size c.check_byte2.ensures c.check_byte1.ensures ∙ c.if-not-first-second.false)
+    (data_two a.frame size) (omega (arith, bytes))

@@ -1,46 +1,27 @@
 -- Done by the short way, with a check byte and without.
 -- Assumes nothing.
-use Rattle.std.proofs.Common.{ℕ, List, Bool, true, ◌≡◌, ◌+◌, ◌≤◌, ◌<◌, ◌&&◌, length, replicate, arith, rules, subst, sym, ◌∙◌}
-use mathlib.Core.Bool.{false, and-eq-true_iff}
-use Rattle.refusals.specs.Refusal.{value}
-use Rattle.bus.specs.Transfers.{Bus, bus_of, read}
-use Rattle.bus.specs.Programs.{ran, on_tape}
-use Rattle.bus.specs.Raw.{sound, Read, gives, read_raw}
-use Rattle.bus.specs.declared.link.Link.{Link}
-use Rattle.raw.specs.Inside.{taken, further, GotBy}
-use Rattle.raw.specs.declared.transfer.Reply.TheVariants.{Made}
+use Rattle.std.proofs.Common.{ℕ, List, true, ◌≡◌, ◌+◌, ◌*◌, ◌≤◌, length, replicate, arith, rules, sym, ◌∙◌}
+use mathlib.Core.Bool.{and-eq-true_iff}
 use Rattle.raw.proofs.Quick.{five, reads_plain, read_well, frame_well}
 use Rattle.raw.proofs.short.read_one.Goals as goal
-
-module _ (s : Link) (reg : ℕ) (bytes : List ℕ) (b : Bus) (size : length bytes ≡ 1) (room : reg < 256) (is : Bool) (tells : is ≡ sound s) where
-  within : reg + length bytes ≤ 256
-  within = omega arith
-
-  checked : (x : Read) (frame log : List ℕ) → (is && s.check) ≡ true → GotBy (read s.address reg 2) b (replicate 2 0) true frame log
-      → x ≡ taken s.address bytes frame (Made false 2) → ran x b.tape log (further b.at 5 7) ≡ on_tape (read_raw s reg bytes) b
-  checked x frame log t g e =
-      let both = (and-eq-true_iff is s.check).0 t in
-      let ok = sym tells ∙ both.0 in
-      frame_well s reg bytes b ok within x both.1 (omega (arith, five s ok)) (λ z. omega arith) (rw size) g e
-
-  plain : (buf log : List ℕ) → (is && s.check) ≡ false → is ≡ true → GotBy (read s.address reg (length bytes)) b bytes true buf log
-      → ran (gives (value tt) buf) b.tape log (further b.at 4 7) ≡ on_tape (read_raw s reg bytes) b
-  plain buf log f t g =
-      subst (λ (n : ℕ). ran (gives (value tt) buf) b.tape log (further b.at (3 + n) 7) ≡ on_tape (read_raw s reg bytes) b) size
-      (read_well s reg bytes b (sym tells ∙ t) within (reads_plain is s.check f t) g)
 
 pub returns-then-got : goal.returns-then-got
 returns-then-got c =
     let a = c.args in
-    let b = bus_of a.tape.now a.log.now a.at in
-    rw c.frame_one.ensures.1
-    (checked a.link a.reg a.«data».now b (search rules) c.ranges.reg.fits _ c.is_sound-sound.ensures _ _ _ c.if-sound-link.true c.if-got.ensures
-    c.frame_one.ensures.0)
+    let size : length a.«data».now ≡ 1 = search rules in
+    let both = (and-eq-true_iff c.is_sound-sound.result a.link.check).0 c.if-sound-link.true in
+    let ok = sym c.is_sound-sound.ensures ∙ both.0 in
+    let within : a.reg + length a.«data».now ≤ 256 = omega arith in (
+      frame_well a.link a.reg a.«data».now ok within both.1 (omega (arith, size, five a.link ok)) (λ z. omega arith) (rw size) c.if-got.ensures.0 c.frame_one.ensures,
+      c.if-got.ensures.1,
+    )
 
 pub returns-then-got-2 : goal.returns-then-got-2
 returns-then-got-2 c =
     let a = c.args in
-    let b = bus_of a.tape.now a.log.now a.at in
-    rw c.further.ensures
-    (plain a.link a.reg a.«data».now b (search rules) c.ranges.reg.fits _ c.is_sound-sound.ensures _ _ c.if-sound-link.false c.if-sound.true
-    c.if-got-2.ensures)
+    let size : length a.«data».now ≡ 1 = search rules in
+    let within : a.reg + length a.«data».now ≤ 256 = omega arith in (
+      read_well a.link a.reg a.«data».now (sym c.is_sound-sound.ensures ∙ c.if-sound.true) within (reads_plain _ _ c.if-sound-link.false c.if-sound.true)
+          c.if-got-2.ensures.0,
+      c.if-got-2.ensures.1,
+    )
