@@ -1,5 +1,5 @@
 pub mod Agree
-pub mod Guard
-pub mod OneRegister
+pub mod Few
 pub mod Source
+pub mod Steps
 pub mod Unwritten

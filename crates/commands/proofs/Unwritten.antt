@@ -1,7 +1,7 @@
 -- `discharge` and `charge` write just where the bit does not stand so already; else tape and log stay as the read
 -- left them.
 -- Assumes nothing.
-use mathlib.Core.Path.{◌≡◌, ◌∙◌}
+use mathlib.Core.Path.{◌≡◌, refl, sym, ◌∙◌}
 use mathlib.Core.Bool.{Bool, true, not}
 use mathlib.Core.List.{[], ◌∷◌}
 use Prim.Native.Nat.{ℕ}
@@ -16,14 +16,15 @@ use Rattle.bq769x0.proofs.Soundly.{sound_on}
 use Rattle.bits.specs.Bits.{holds, switched, switching}
 use Rattle.bits.proofs.Switching.{stands_so, differs}
 use Rattle.commands.specs.Registers.{read_register, writing, changing}
-use Rattle.commands.proofs.OneRegister.{byte_on}
+use Rattle.bus.proofs.Programs.{went_on}
 
 -- on a sound record, by a read of 05 that gave a byte; mask 2 is `discharge`, mask 1 is `charge`
 module _ (d : BQ769x0) (sound : is_sound d ≡ true) (mask byte : ℕ) (on : Bool) (b b' : Bus)
     (e : record { answer = value byte; bus = b' } ≡ on_tape (read_register d.link 0x05) b) where
   switched_by : on_tape (soundly d (refused nine) (changing d.link 0x05 (switching mask on))) b
       ≡ on_tape (writing d.link 0x05 (switching mask on byte)) b'
-  switched_by = sound_on _ _ _ b sound ∙ byte_on d.link 0x05 (switching mask on) b e
+  unfolding changing
+  switched_by = sound_on _ _ _ b sound ∙ went_on (read_register d.link 0x05) refused _ b _ _ (sym e) _ refl
 
   pub unwritten : holds mask byte ≡ on
       → on_tape (soundly d (refused nine) (changing d.link 0x05 (switching mask on))) b

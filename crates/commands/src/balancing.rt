@@ -11,6 +11,7 @@ use raw::{few, short};
 use refusals::Error;
 
 // Inputs 1 to 5 alone, as the crate has it.
+#[tactic(auto, using(crate::proofs::Steps::steps), unfolding(bq769x0::specs::Registers::write_raw))]
 pub fn enable_balancing(device: &BQ769x0, cells: u8, bus: &mut Bus) -> Result<(), Error>
     ensures { does (enable_balancing device.now cells) bus (as_raw result) }
 {
@@ -30,6 +31,7 @@ pub fn balancing_state(device: &BQ769x0, bus: &mut Bus) -> Result<u8, Error>
 }
 
 // 9, then 22, 23, 24 by the rules of the set, and one write of as many registers as the device has.
+#[tactic(auto, using(crate::proofs::Few::few), unfolding(crate::specs::Commands::balance_set, cellbal::specs::Registers::registers_for))]
 pub fn balance_set(device: &BQ769x0, set: u16, limit: u8, bus: &mut Bus) -> Result<(), Error>
     ensures { does (balance_set device.now set limit) bus (as_raw result) }
 {
@@ -43,6 +45,7 @@ pub fn balance_set(device: &BQ769x0, set: u16, limit: u8, bus: &mut Bus) -> Resu
     few::write_few(link, 0x01, &registers[..n], bus)
 }
 
+#[tactic(auto, using(crate::proofs::Few::few), unfolding(crate::specs::Commands::balance_get))]
 pub fn balance_get(device: &BQ769x0, bus: &mut Bus) -> Result<u16, Error>
     ensures { does (balance_get device.now) bus (as_set result) }
 {

@@ -1,4 +1,6 @@
 // Any of the chip's registers, by a record: 9 first where it is not sound.
+#![tactic(auto, using(crate::proofs::Steps::steps), unfolding(bq769x0::specs::Registers::read_raw, bq769x0::specs::Registers::write_raw))]
+
 ghost use Rattle.bus.specs.Lent.{does};
 ghost use Rattle.bus.specs.Raw.{as_raw, gives};
 ghost use Rattle.bq769x0.specs.Registers.{read_raw, write_raw};

@@ -1,4 +1,6 @@
 // The converter and the source of the temperature, bits 4 and 3 of register 04.
+#![tactic(auto, using(crate::proofs::Steps::steps), unfolding(crate::specs::Registers::read_as))]
+
 ghost use Rattle.std.specs.Prelude.{◌≡◌};
 ghost use Rattle.bus.specs.Lent.{does};
 ghost use Rattle.bus.specs.Raw.{as_raw};

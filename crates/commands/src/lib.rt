@@ -1,6 +1,6 @@
 // The register commands: free functions, since the record is another crate's type. None of them changes the record.
 // Each tests it first, 9 where it is not sound, and then goes by its link.
-#![tactic(auto)]
+#![tactic(auto, using(crate::proofs::Steps::steps))]
 
 pub mod balancing;
 pub mod by_record;

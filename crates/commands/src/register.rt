@@ -1,4 +1,6 @@
 // One register, by the link: its byte read, and some of its bits changed.
+#![tactic(auto, using(crate::proofs::Steps::steps), unfolding(crate::specs::Registers::read_register, crate::specs::Registers::writing, crate::specs::Registers::changing, bits::specs::Bits::putting))]
+
 ghost use Rattle.bus.specs.Lent.{does};
 ghost use Rattle.bus.specs.Raw.{as_raw};
 ghost use Rattle.commands.specs.Answers.{as_byte};

@@ -1,4 +1,6 @@
 // The status register, 00.
+#![tactic(auto, using(crate::proofs::Steps::steps), unfolding(crate::specs::Registers::read_as))]
+
 ghost use Rattle.bus.specs.Lent.{does};
 ghost use Rattle.bus.specs.Raw.{as_raw};
 ghost use Rattle.commands.specs.Answers.{as_stat};

@@ -1,4 +1,6 @@
 // The switches for discharging and charging, bits 1 and 0 of register 05.
+#![tactic(auto, using(crate::proofs::Steps::steps), unfolding(crate::specs::Registers::read_as, crate::specs::Registers::writing, crate::specs::Registers::changing, bits::specs::Bits::switching))]
+
 ghost use Rattle.bus.specs.Lent.{does};
 ghost use Rattle.bus.specs.Raw.{as_raw};
 ghost use Rattle.commands.specs.Answers.{as_flag};

@@ -10,6 +10,7 @@ use bus::Bus;
 use refusals::Error;
 use units::{MilliAmperes, MilliVolts};
 
+#[tactic(auto, using(crate::proofs::Initialised::initialised_or_not), unfolding(crate::specs::Pack::current))]
 pub fn current(device: &BQ769x0, bus: &mut Bus) -> Result<MilliAmperes, Error>
     ensures { does (current device.now) bus (as_current result) }
 {
@@ -23,6 +24,7 @@ pub fn current(device: &BQ769x0, bus: &mut Bus) -> Result<MilliAmperes, Error>
     counter::current(numbers::as_i16(cc), device.shunt)
 }
 
+#[tactic(auto, using(commands::proofs::Steps::steps), unfolding(crate::specs::Pack::voltage))]
 pub fn voltage(device: &BQ769x0, bus: &mut Bus) -> Result<MilliVolts, Error>
     ensures { does (voltage device.now) bus (as_voltage result) }
 {

@@ -1,4 +1,6 @@
 // The temperature: the crate's reading in µV, named degrees, and where it comes from.
+#![tactic(auto, using(commands::proofs::Steps::steps), unfolding(crate::specs::Temperature::sense, crate::specs::Temperature::with_source, crate::specs::Temperature::temperature))]
+
 ghost use Rattle.bus.specs.Lent.{does};
 ghost use Rattle.measuring.specs.Temperature.{as_temperature, temperature};
 

@@ -1,4 +1,6 @@
 // Two registers as one number, the high byte first.
+#![tactic(auto, using(commands::proofs::Steps::steps), unfolding(crate::specs::Word::read_word))]
+
 ghost use Rattle.bus.specs.Lent.{does};
 ghost use Rattle.measuring.specs.Word.{read_word};
 ghost use Rattle.measuring.specs.Inside.{as_word};
