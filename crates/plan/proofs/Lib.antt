@@ -19,5 +19,6 @@ pub mod RangeMismatch
 pub mod ReadBack
 pub mod Shunt
 pub mod Six
+mod Three
 pub mod TripPoints
 pub mod WithinNumbers

@@ -9,6 +9,7 @@ use protection::scd::SCDThreshold;
 use refusals::Error;
 
 impl Config {
+    #[tactic(auto, using(crate::proofs::Order::in_turn), unfolding(crate::specs::Steps::shunt_for, crate::specs::Steps::steps_for))]
     pub fn steps(self) -> Result<Steps, Error>
         ensures { as_steps result ≡ steps_for self }
     {

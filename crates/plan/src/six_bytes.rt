@@ -16,6 +16,7 @@ use protection::{Threshold, range};
 use refusals::Error;
 use units::{Amperes, MilliVolts};
 
+#[tactic(auto, using(crate::proofs::Order::in_turn, crate::proofs::Three::three_first), unfolding(crate::specs::Steps::shunt_for, crate::specs::Plan::plan_for, crate::specs::Plan::set_for))]
 pub fn plan(adc: AdcTransferFunction, config: Config, steps: Steps) -> Result<Plan, Error>
     ensures { as_plan result
         ≡ plan_for adc.gain adc.offset config (scd.mv_of steps.scd) (ocd.mv_of steps.ocd) }
@@ -35,6 +36,7 @@ pub fn plan(adc: AdcTransferFunction, config: Config, steps: Steps) -> Result<Pl
 }
 
 // The code of the trip register for an asked voltage.
+#[tactic(auto, using(crate::proofs::Order::in_turn), unfolding(crate::specs::Trips::trip_code_for))]
 fn trip_code(adc: AdcTransferFunction, asked: MilliVolts) -> Result<u8, Error>
     ensures { as_number result ≡ trip_code_for adc.gain adc.offset asked.0 }
 {
@@ -42,6 +44,7 @@ fn trip_code(adc: AdcTransferFunction, asked: MilliVolts) -> Result<u8, Error>
 }
 
 // Whether both asked voltages are within what the trip registers can stand for.
+#[tactic(auto, using(crate::proofs::Order::in_turn), unfolding(crate::specs::Trips::within_for, crate::specs::Trips::obtainable_or))]
 fn within_limits(adc: AdcTransferFunction, config: Config) -> Result<(), Error>
     ensures { as_within result
         ≡ within_for adc.gain adc.offset config.ov_threshold.0 config.uv_threshold.0 }
@@ -64,6 +67,7 @@ fn obtainable(asked: MilliVolts, limits: Limits) -> bool
 }
 
 // PROTECT1 (06), PROTECT2 (07) and PROTECT3 (08).
+#[tactic(auto, using(crate::proofs::Order::in_turn), unfolding(crate::specs::Registers::protect_for))]
 fn protect_bytes(config: Config, steps: Steps, range: OCDSCDRange) -> Result<[u8; 3], Error>
     ensures { as_protect result
         ≡ protect_for config (scd.mv_of steps.scd) (ocd.mv_of steps.ocd) range }
