@@ -1,5 +1,4 @@
 pub mod Agree
 pub mod Ranged
-mod ByDevice
 mod Reading
 pub mod Positions

@@ -1,0 +1,17 @@
+-- The reading's millivolts are stored as a list of as many as there are cells.
+-- Assumes nothing.
+use Rattle.std.proofs.Common.{◌≡◌, length, true, arith, rules}
+use Rattle.bus.specs.Programs.{proceed, on_tape}
+use Rattle.bus.proofs.Programs.{on_tape_bind}
+use Rattle.layout.specs.Cells.{has_room}
+use Rattle.layout.proofs.Room.{stored_first}
+use Rattle.firmware.specs.JobWired.{read_wired}
+use Rattle.firmware.proofs.Reading.{stepped}
+use Rattle.firmware.proofs.wired.read_wired.Goals as goal
+
+pub returns : goal.returns
+unfolding read_wired proceed on_tape
+returns c =
+    let room : has_room c.args.device.now.cell_count (length c.args.list.now) ≡ true = grind arith in
+    let all : length c.wired.new.list ≡ 15 = search rules in
+    grind (arith, stepped, on_tape_bind, stored_first _ _ c.args.list.now all room)
