@@ -1,27 +1,36 @@
 -- What private contracts cite: a step's codes, and a line of the code's ladder of steps. Nobody has to believe it.
 -- Assumes nothing.
-use Rattle.std.specs.Prelude.{ℕ, suc, ◌≤◌, cond, List, [], ◌∷◌, map, eqb, Option, Some, None, is_some, unwrap_or}
+use Rattle.std.specs.Prelude.{ℕ, suc, ◌≤◌, Bool, true, false, cond, List, [], ◌∷◌, map, eqb}
 use Rattle.refusals.specs.Refusal.{Answer}
-use Rattle.protection.specs.Ranges.{is_in, code_in, in_range, range_by}
+use Rattle.protection.specs.Ranges.{is_in, code_in, in_range}
 use Rattle.protection.specs.Scd as scd
 use Rattle.protection.specs.Ocd as ocd
 use Rattle.protection.specs.declared.range.Codes.{Codes}
+use Rattle.protection.specs.declared.range.Codes.TheVariants as C
 use Rattle.protection.specs.declared.range.OCDSCDRange.{OCDSCDRange}
+use Rattle.protection.specs.declared.range.OCDSCDRange.TheVariants as R
 use Rattle.protection.specs.declared.scd.SCDThreshold.{SCDThreshold}
 use Rattle.protection.specs.declared.ocd.OCDThreshold.{OCDThreshold}
 
--- n's code in a range, of a range that has it
-abbrev pub place_in : List ℕ → ℕ → Option ℕ
-place_in xs n = cond (is_in n xs) (Some (code_in xs n)) None
+-- a step's codes, by whether the lower list has it and whether the upper has it; no step is in neither
+abbrev pub codes_by : Bool → Bool → ℕ → ℕ → Codes
+codes_by true true lower upper = C.Both lower upper
+codes_by true false lower upper = C.Lower lower
+codes_by false true lower upper = C.Upper upper
+codes_by false false lower upper = C.Both 0 0
 
 abbrev pub codes_for : List ℕ → List ℕ → ℕ → Codes
-codes_for lower upper n = record { lower = place_in lower n; upper = place_in upper n }
+codes_for lower upper n = codes_by (is_in n lower) (is_in n upper) (code_in lower n) (code_in upper n)
 
 abbrev pub range_of : Codes → OCDSCDRange
-range_of codes = range_by (is_some codes.lower) (is_some codes.upper)
+range_of (C.Lower code) = R.Lower
+range_of (C.Upper code) = R.Upper
+range_of (C.Both lower upper) = R.Unknown
 
 abbrev pub number_in : Codes → OCDSCDRange → Answer ℕ
-number_in codes range = in_range range (unwrap_or codes.lower 0) (unwrap_or codes.upper 0)
+number_in (C.Lower code) range = in_range range code 0
+number_in (C.Upper code) range = in_range range 0 code
+number_in (C.Both lower upper) range = in_range range lower upper
 
 -- a line of the ladder: the numbers that have one step
 pub record Line : Type 0 where

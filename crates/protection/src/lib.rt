@@ -34,12 +34,14 @@ pub trait Threshold: Copy {
     fn from_mv(mv_threshold: u8) -> Self
         ensures { mv_of result ≡ step (lower ++ upper) mv_threshold };
 
+    #[tactic(auto, using(crate::proofs::Codes::range_is))]
     fn range(self) -> OCDSCDRange
         ensures { result ≡ range_for lower upper (mv_of self) }
     {
         self.codes().range()
     }
 
+    #[tactic(auto, using(crate::proofs::Codes::number_is))]
     fn bits(self, range: OCDSCDRange) -> Result<u8, Error>
         ensures { as_number result ≡ code_for lower upper range (mv_of self) }
     {
@@ -54,6 +56,7 @@ pub trait Threshold: Copy {
 }
 
 // The millivolts across the shunt.
+#[tactic(auto, unfolding(crate::specs::Steps::mv_across))]
 fn mv_across(threshold: Amperes, shunt: MicroOhms) -> Result<u8, Error>
     ensures { as_number result ≡ mv_across threshold.0 shunt.0 }
 {

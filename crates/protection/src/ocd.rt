@@ -49,106 +49,31 @@ impl Threshold for OCDThreshold {
 
     fn codes(self) -> Codes {
         match self {
-            OCDThreshold::_8mV => Codes {
-                lower: Some(0),
-                upper: None,
-            },
-            OCDThreshold::_11mV => Codes {
-                lower: Some(1),
-                upper: None,
-            },
-            OCDThreshold::_14mV => Codes {
-                lower: Some(2),
-                upper: None,
-            },
-            OCDThreshold::_17mV => Codes {
-                lower: Some(3),
-                upper: Some(0),
-            },
-            OCDThreshold::_19mV => Codes {
-                lower: Some(4),
-                upper: None,
-            },
-            OCDThreshold::_22mV => Codes {
-                lower: Some(5),
-                upper: Some(1),
-            },
-            OCDThreshold::_25mV => Codes {
-                lower: Some(6),
-                upper: None,
-            },
-            OCDThreshold::_28mV => Codes {
-                lower: Some(7),
-                upper: Some(2),
-            },
-            OCDThreshold::_31mV => Codes {
-                lower: Some(8),
-                upper: None,
-            },
-            OCDThreshold::_33mV => Codes {
-                lower: Some(9),
-                upper: Some(3),
-            },
-            OCDThreshold::_36mV => Codes {
-                lower: Some(10),
-                upper: None,
-            },
-            OCDThreshold::_39mV => Codes {
-                lower: Some(11),
-                upper: Some(4),
-            },
-            OCDThreshold::_42mV => Codes {
-                lower: Some(12),
-                upper: None,
-            },
-            OCDThreshold::_44mV => Codes {
-                lower: Some(13),
-                upper: Some(5),
-            },
-            OCDThreshold::_47mV => Codes {
-                lower: Some(14),
-                upper: None,
-            },
-            OCDThreshold::_50mV => Codes {
-                lower: Some(15),
-                upper: Some(6),
-            },
-            OCDThreshold::_56mV => Codes {
-                lower: None,
-                upper: Some(7),
-            },
-            OCDThreshold::_61mV => Codes {
-                lower: None,
-                upper: Some(8),
-            },
-            OCDThreshold::_67mV => Codes {
-                lower: None,
-                upper: Some(9),
-            },
-            OCDThreshold::_72mV => Codes {
-                lower: None,
-                upper: Some(10),
-            },
-            OCDThreshold::_78mV => Codes {
-                lower: None,
-                upper: Some(11),
-            },
-            OCDThreshold::_83mV => Codes {
-                lower: None,
-                upper: Some(12),
-            },
-            OCDThreshold::_89mV => Codes {
-                lower: None,
-                upper: Some(13),
-            },
-            OCDThreshold::_94mV => Codes {
-                lower: None,
-                upper: Some(14),
-            },
-            OCDThreshold::_100mV => Codes {
-                lower: None,
-                upper: Some(15),
-            },
+            OCDThreshold::_8mV => Codes::Lower(0),
+            OCDThreshold::_11mV => Codes::Lower(1),
+            OCDThreshold::_14mV => Codes::Lower(2),
+            OCDThreshold::_17mV => Codes::Both(3, 0),
+            OCDThreshold::_19mV => Codes::Lower(4),
+            OCDThreshold::_22mV => Codes::Both(5, 1),
+            OCDThreshold::_25mV => Codes::Lower(6),
+            OCDThreshold::_28mV => Codes::Both(7, 2),
+            OCDThreshold::_31mV => Codes::Lower(8),
+            OCDThreshold::_33mV => Codes::Both(9, 3),
+            OCDThreshold::_36mV => Codes::Lower(10),
+            OCDThreshold::_39mV => Codes::Both(11, 4),
+            OCDThreshold::_42mV => Codes::Lower(12),
+            OCDThreshold::_44mV => Codes::Both(13, 5),
+            OCDThreshold::_47mV => Codes::Lower(14),
+            OCDThreshold::_50mV => Codes::Both(15, 6),
+            OCDThreshold::_56mV => Codes::Upper(7),
+            OCDThreshold::_61mV => Codes::Upper(8),
+            OCDThreshold::_67mV => Codes::Upper(9),
+            OCDThreshold::_72mV => Codes::Upper(10),
+            OCDThreshold::_78mV => Codes::Upper(11),
+            OCDThreshold::_83mV => Codes::Upper(12),
+            OCDThreshold::_89mV => Codes::Upper(13),
+            OCDThreshold::_94mV => Codes::Upper(14),
+            OCDThreshold::_100mV => Codes::Upper(15),
         }
     }
 

@@ -52,9 +52,10 @@ impl OCDSCDRange {
 
 // A step's code in each range that has it.
 #[derive(Clone, Copy)]
-pub struct Codes {
-    pub lower: Option<u8>,
-    pub upper: Option<u8>,
+pub enum Codes {
+    Lower(u8),
+    Upper(u8),
+    Both(u8, u8),
 }
 
 impl Codes {
@@ -62,10 +63,10 @@ impl Codes {
     pub fn range(self) -> OCDSCDRange
         ensures { result ≡ range_of self }
     {
-        match (self.lower, self.upper) {
-            (Some(_), None) => OCDSCDRange::Lower,
-            (None, Some(_)) => OCDSCDRange::Upper,
-            _ => OCDSCDRange::Unknown,
+        match self {
+            Codes::Lower(_) => OCDSCDRange::Lower,
+            Codes::Upper(_) => OCDSCDRange::Upper,
+            Codes::Both(_, _) => OCDSCDRange::Unknown,
         }
     }
 
@@ -73,10 +74,11 @@ impl Codes {
     pub fn code_in(self, range: OCDSCDRange) -> Result<u8, Error>
         ensures { as_number result ≡ number_in self range }
     {
-        match range {
-            OCDSCDRange::Lower => Ok(self.lower.unwrap_or(0)),
-            OCDSCDRange::Upper => Ok(self.upper.unwrap_or(0)),
-            OCDSCDRange::Unknown => Err(Error::UnknownRange),
+        match (range, self) {
+            (OCDSCDRange::Unknown, _) => Err(Error::UnknownRange),
+            (OCDSCDRange::Lower, Codes::Lower(code) | Codes::Both(code, _)) => Ok(code),
+            (OCDSCDRange::Upper, Codes::Upper(code) | Codes::Both(_, code)) => Ok(code),
+            _ => Ok(0),
         }
     }
 }

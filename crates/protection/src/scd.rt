@@ -37,58 +37,19 @@ impl Threshold for SCDThreshold {
 
     fn codes(self) -> Codes {
         match self {
-            SCDThreshold::_22mV => Codes {
-                lower: Some(0),
-                upper: None,
-            },
-            SCDThreshold::_33mV => Codes {
-                lower: Some(1),
-                upper: None,
-            },
-            SCDThreshold::_44mV => Codes {
-                lower: Some(2),
-                upper: Some(0),
-            },
-            SCDThreshold::_56mV => Codes {
-                lower: Some(3),
-                upper: None,
-            },
-            SCDThreshold::_67mV => Codes {
-                lower: Some(4),
-                upper: Some(1),
-            },
-            SCDThreshold::_78mV => Codes {
-                lower: Some(5),
-                upper: None,
-            },
-            SCDThreshold::_89mV => Codes {
-                lower: Some(6),
-                upper: Some(2),
-            },
-            SCDThreshold::_100mV => Codes {
-                lower: Some(7),
-                upper: None,
-            },
-            SCDThreshold::_111mV => Codes {
-                lower: None,
-                upper: Some(3),
-            },
-            SCDThreshold::_133mV => Codes {
-                lower: None,
-                upper: Some(4),
-            },
-            SCDThreshold::_155mV => Codes {
-                lower: None,
-                upper: Some(5),
-            },
-            SCDThreshold::_178mV => Codes {
-                lower: None,
-                upper: Some(6),
-            },
-            SCDThreshold::_200mV => Codes {
-                lower: None,
-                upper: Some(7),
-            },
+            SCDThreshold::_22mV => Codes::Lower(0),
+            SCDThreshold::_33mV => Codes::Lower(1),
+            SCDThreshold::_44mV => Codes::Both(2, 0),
+            SCDThreshold::_56mV => Codes::Lower(3),
+            SCDThreshold::_67mV => Codes::Both(4, 1),
+            SCDThreshold::_78mV => Codes::Lower(5),
+            SCDThreshold::_89mV => Codes::Both(6, 2),
+            SCDThreshold::_100mV => Codes::Lower(7),
+            SCDThreshold::_111mV => Codes::Upper(3),
+            SCDThreshold::_133mV => Codes::Upper(4),
+            SCDThreshold::_155mV => Codes::Upper(5),
+            SCDThreshold::_178mV => Codes::Upper(6),
+            SCDThreshold::_200mV => Codes::Upper(7),
         }
     }
 
