@@ -1,4 +1,3 @@
 pub mod Agree
 pub mod Ranged
-mod Reading
 pub mod Positions

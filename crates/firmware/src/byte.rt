@@ -5,7 +5,7 @@ ghost use Rattle.firmware.specs.Found.{found, found_for};
 
 use refusals::Error;
 
-pub(crate) fn store_byte(answer: Result<u8, Error>, byte: &mut [u8; 1]) -> u8
+pub(crate) fn store(answer: Result<u8, Error>, byte: &mut [u8; 1]) -> u8
     ensures { found result byte.new ≡ found_for (as_answer (λ (n : ℕ). n) answer) byte.old }
 {
     match answer {

@@ -16,11 +16,6 @@ ghost use Rattle.job.specs.Seconds.{seconds_for};
 ghost use Rattle.protection.specs.Delays.{uv_times, ov_times};
 ghost use Rattle.wiring.specs.Questions.{cell_on};
 
-use crate::byte::store_byte;
-use crate::crate_list::read_cells;
-use crate::spread::store_spread;
-use crate::told::{tell_number, tell_values};
-use crate::wired::read_wired;
 use bq769x0::{BQ769x0, Head};
 use bus::Bus;
 use job::seconds;
@@ -43,11 +38,11 @@ pub fn bq769x0_init(job: &[u8], tape: &[u8], log: &mut [u8], out: &mut [u8; 36])
     let mut bus = Bus::new(tape, log);
     let mut head = Head::new(0, 0, 0, false).head;
     let answer = job_setup::set_up(job, &mut head, &mut bus);
-    tell_values(&answer, bus.at, out)
+    told::values(&answer, bus.at, out)
 }
 
 // The init of a job, and one cell reading after it.
-#[tactic(auto, using(bus::proofs::Programs::on_tape_bind, crate::proofs::Reading::stepped), unfolding(crate::specs::JobCells::job_cells, bus::specs::Programs::proceed, bus::specs::Programs::on_tape))]
+#[tactic(auto, using(bus::proofs::Programs::on_tape_bind, setup::proofs::Seq::stepped), unfolding(crate::specs::JobCells::job_cells, bus::specs::Programs::proceed, bus::specs::Programs::on_tape))]
 pub fn init_cells(
     job: &[u8],
     device: &mut BQ769x0,
@@ -57,7 +52,7 @@ pub fn init_cells(
     ensures { does (job_cells job.now list.old) bus (listed (as_init result) device.new list.new) }
 {
     let values = job_setup::init(job, device, bus)?;
-    read_cells(values, device, list, bus)
+    crate_list::read_cells(values, device, list, bus)
 }
 
 // For C: the number and the 36 bytes as after `bq769x0_init`, and the cells in list, which a refusal leaves as it was.
@@ -74,11 +69,11 @@ pub fn bq769x0_init_cells(
     let mut bus = Bus::new(tape, log);
     let mut device = BQ769x0::new(0, 0, 0, false).device;
     let answer = init_cells(job, &mut device, list, &mut bus);
-    tell_values(&answer, bus.at, out)
+    told::values(&answer, bus.at, out)
 }
 
 // The init of a job, and one cell reading by the wiring after it.
-#[tactic(auto, using(bus::proofs::Programs::on_tape_bind, crate::proofs::Reading::stepped), unfolding(crate::specs::JobWired::job_wired, bus::specs::Programs::proceed, bus::specs::Programs::on_tape))]
+#[tactic(auto, using(bus::proofs::Programs::on_tape_bind, setup::proofs::Seq::stepped), unfolding(crate::specs::JobWired::job_wired, bus::specs::Programs::proceed, bus::specs::Programs::on_tape))]
 pub fn init_wired(
     job: &[u8],
     device: &mut BQ769x0,
@@ -89,7 +84,7 @@ pub fn init_wired(
     ensures { does (job_wired job.now inputs.old list.old) bus (beside (as_init result) device.new inputs.new list.new) }
 {
     let values = job_setup::init(job, device, bus)?;
-    read_wired(values, device, inputs, list, bus)
+    wired::read_wired(values, device, inputs, list, bus)
 }
 
 // For C: as `bq769x0_init_cells`, by the wiring, with each cell's input in inputs, and sum, lowest and highest in spread; a refusal leaves all
@@ -110,8 +105,8 @@ pub fn bq769x0_init_wired(
     let mut bus = Bus::new(tape, log);
     let mut device = BQ769x0::new(0, 0, 0, false).device;
     let answer = init_wired(job, &mut device, inputs, list, &mut bus);
-    store_spread(&answer, &device, spread);
-    tell_values(&answer, bus.at, out)
+    spread::store(&answer, &device, spread);
+    told::values(&answer, bus.at, out)
 }
 
 // For C: a set of inputs balanced, for the device in field 20, on a board with this limit: the number, and the 36 bytes in out.
@@ -128,7 +123,7 @@ pub fn bq769x0_balance_set(
 {
     let mut bus = Bus::new(tape, log);
     let answer = balancing::set(device, set, limit, &mut bus);
-    tell_number(answer.map(|()| 0), bus.at, out)
+    told::number(answer.map(|()| 0), bus.at, out)
 }
 
 // For C: the set that the device has on, first of the five numbers in out.
@@ -138,26 +133,26 @@ pub fn bq769x0_balance_get(device: &[u8], tape: &[u8], log: &mut [u8], out: &mut
 {
     let mut bus = Bus::new(tape, log);
     let answer = balancing::get(device, &mut bus);
-    tell_number(answer.map(u32::from), bus.at, out)
+    told::number(answer.map(u32::from), bus.at, out)
 }
 
 // For C: the number, and the cell on an input of a pack, which a refusal leaves as it was.
 pub fn bq769x0_cell_on(x: u8, cells: u8, input: u8, cell: &mut [u8; 1]) -> u8
     ensures { found result cell.new ≡ found_for (cell_on x cells input) cell.old }
 {
-    store_byte(questions::cell_on(x, cells, input), cell)
+    byte::store(questions::cell_on(x, cells, input), cell)
 }
 
 // For C: the number, and the seconds that a UV delay's code stands for, which a refusal leaves as they were.
 pub fn bq769x0_uv_seconds(code: u8, seconds: &mut [u8; 1]) -> u8
     ensures { found result seconds.new ≡ found_for (seconds_for uv_times code) seconds.old }
 {
-    store_byte(seconds::uv_seconds(code), seconds)
+    byte::store(seconds::uv_seconds(code), seconds)
 }
 
 // For C: the same of an OV delay's code.
 pub fn bq769x0_ov_seconds(code: u8, seconds: &mut [u8; 1]) -> u8
     ensures { found result seconds.new ≡ found_for (seconds_for ov_times code) seconds.old }
 {
-    store_byte(seconds::ov_seconds(code), seconds)
+    byte::store(seconds::ov_seconds(code), seconds)
 }

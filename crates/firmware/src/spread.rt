@@ -8,7 +8,7 @@ use layout::list::put_three;
 use plan::CalculatedValues;
 use refusals::Error;
 
-pub(crate) fn store_spread(
+pub(crate) fn store(
     answer: &Result<CalculatedValues, Error>,
     device: &BQ769x0,
     bytes: &mut [u8; 12],

@@ -7,24 +7,20 @@ ghost use Rattle.firmware.specs.Handed.{layout, one_number};
 
 use bus::Cursor;
 use layout::lay_out;
-use plan::CalculatedValues;
-use plan::answer::{InitNumbers, in_numbers, number};
+use plan::answer::InitNumbers;
+use plan::{CalculatedValues, answer};
 use refusals::Error;
 
 // Of an init.
-pub(crate) fn tell_values(
-    answer: &Result<CalculatedValues, Error>,
-    at: Cursor,
-    out: &mut [u8; 36],
-) -> u8
+pub(crate) fn values(answer: &Result<CalculatedValues, Error>, at: Cursor, out: &mut [u8; 36]) -> u8
     ensures { (result ≡ number_of (as_init answer.now)) × (out.new ≡ layout (as_init answer.now) at) }
 {
-    lay_out(out, at, in_numbers(answer));
-    number(answer)
+    lay_out(out, at, answer::in_numbers(answer));
+    answer::number(answer)
 }
 
 // Of a call that answers one number; its refusal is told as an init's.
-pub(crate) fn tell_number(answer: Result<u32, Error>, at: Cursor, out: &mut [u8; 36]) -> u8
+pub(crate) fn number(answer: Result<u32, Error>, at: Cursor, out: &mut [u8; 36]) -> u8
     ensures { (result ≡ number_of (as_answer (λ (n : ℕ). n) answer))
         × (out.new ≡ laid at (one_number (as_answer (λ (n : ℕ). n) answer))) }
 {
@@ -33,6 +29,6 @@ pub(crate) fn tell_number(answer: Result<u32, Error>, at: Cursor, out: &mut [u8;
             lay_out(out, at, InitNumbers(n, 0, 0, 0, 0));
             0
         }
-        Err(e) => tell_values(&Err(e), at, out),
+        Err(e) => values(&Err(e), at, out),
     }
 }

@@ -6,7 +6,7 @@ use Rattle.bus.proofs.Programs.{on_tape_bind}
 use Rattle.layout.specs.Cells.{has_room}
 use Rattle.layout.proofs.Room.{stored_first}
 use Rattle.firmware.specs.JobCells.{read_cells}
-use Rattle.firmware.proofs.Reading.{stepped}
+use Rattle.setup.proofs.Seq.{stepped}
 use Rattle.firmware.proofs.crate_list.read_cells.Goals as goal
 
 pub returns : goal.returns

@@ -6,7 +6,7 @@ use Rattle.bus.proofs.Programs.{on_tape_bind}
 use Rattle.layout.specs.Cells.{has_room}
 use Rattle.layout.proofs.Room.{stored_first}
 use Rattle.firmware.specs.JobWired.{read_wired}
-use Rattle.firmware.proofs.Reading.{stepped}
+use Rattle.setup.proofs.Seq.{stepped}
 use Rattle.firmware.proofs.wired.read_wired.Goals as goal
 
 pub returns : goal.returns
