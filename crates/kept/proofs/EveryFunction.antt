@@ -10,9 +10,7 @@ use Rattle.refusals.specs.Refusal.{Answer, value, refused}
 use Rattle.refusals.proofs.Values.{refused_not, same_value}
 use Rattle.plan.specs.Steps.{steps_for}
 use Rattle.plan.specs.Plan.{Values}
-use Rattle.plan.specs.declared.Config.{Config}
-use Rattle.bus.specs.Transfers.{Bus}
-use Rattle.bus.specs.Programs.{Ran, on_tape}
+use Rattle.bus.specs.Programs.{Ran}
 use Rattle.bus.specs.Raw.{Done}
 use Rattle.bus.proofs.Always.{always, on_tape_lem, always_after, always_pure}
 use Rattle.bq769x0.specs.Record.{of_parts, head_of, Left, leaving, device_allowed, fresh, made_by, new_for}
@@ -20,9 +18,8 @@ use Rattle.bq769x0.specs.Figures.{first_cells, spread_of, Fits}
 use Rattle.bq769x0.specs.declared.BQ769x0.{BQ769x0}
 use Rattle.bq769x0.proofs.Keeps.{new_sound}
 use Rattle.bq769x0.proofs.Figures.{unread_fits}
-use Rattle.procedure.specs.Cells.{Filled, cell_voltages}
-use Rattle.procedure.specs.Wired.{Shown, wired}
-use Rattle.procedure.specs.Init.{init_by}
+use Rattle.procedure.specs.Cells.{Filled}
+use Rattle.procedure.specs.Wired.{Shown}
 use Rattle.procedure.proofs.Keeps as keeps
 use Rattle.procedure.proofs.Sound.{read_adc_sound, init_sound, cells_sound, wired_sound}
 use Rattle.procedure.proofs.Fits.{taking_fits, read_adc_readings, init_readings, read_adc_fits, init_fits_always, init_fits, cells_fit, wired_fits}
@@ -32,7 +29,7 @@ use Rattle.firmware.specs.JobCells.{Listed, storing, job_cells}
 use Rattle.firmware.specs.JobWired as by-wiring
 use Rattle.firmware.specs.JobWired.{Beside, job_wired}
 use Rattle.bench.specs.Calls.{record_by}
-use Rattle.kept.specs.EveryFunction.{Kept, KeptWhole, EveryFunction}
+use Rattle.kept.specs.EveryFunction.{Kept, KeptWhole, InitKeeps, EveryFunction}
 
 -- ---- made
 fresh_fits : (x address n : ℕ) (check : Bool) → Fits (fresh x address n check)
@@ -100,21 +97,10 @@ job_wired_fits job inputs list =
     always_after FitBeside (keeps.Kept Fits) (job_init job) _ (job_fits job) λ left e. wired_ready_fits inputs list left.device left.answer e
 
 -- ---- so of every outcome that meets the promise
-init_kept : (d : BQ769x0) (config : Config) (b : Bus) {x : Ran (Left Values)} → x ≡ on_tape (init_by steps_for d config) b
-    → KeptWhole d x.answer.device
-init_kept d config b e =
+init_kept : InitKeeps
+init_kept d d' config b after a e =
     subst⁻¹ (λ (x : Ran (Left Values)). KeptWhole d x.answer.device) e
     ((init_sound steps_for d config b, init_fits steps_for d config b), init_readings d.readings steps_for d config b refl)
-
-cells_kept : (d : BQ769x0) (list : List ℤ) (b : Bus) {x : Ran Filled} → x ≡ on_tape (cell_voltages d list) b → Kept d x.answer.device
-cells_kept d list b e =
-    subst⁻¹ (λ (x : Ran Filled). Kept d x.answer.device) e ((λ s. cells_sound d s list b), (λ f. cells_fit d f list b))
-
-wired_kept : (d : BQ769x0) (inputs : List ℕ) (list : List ℤ) (b : Bus) {x : Ran Shown} → x ≡ on_tape (wired d inputs list) b
-    → Kept d x.answer.device
-wired_kept d inputs list b e =
-    subst⁻¹ (λ (x : Ran Shown). Kept d x.answer.device) e
-    ((λ s. wired_sound d s inputs list b), (λ f. wired_fits d f inputs list b))
 
 pub every_function : EveryFunction
 unfolding keeps.Kept FitListed FitBeside
@@ -127,25 +113,25 @@ every_function = record {
   «bq769x0::BQ769x0::of_parts» = λ link n adc shunt mark r e. subst⁻¹ Fits e (unread_fits (head_of (of_parts link n adc shunt mark)));
   «bench::record_by» = λ x n address check gain b51 shunt r e.
       subst⁻¹ Fits e (unread_fits (head_of (record_by x n address check gain b51 shunt)));
-  «bq769x0::BQ769x0::with_head» = λ d head r e count h.
+  «bq769x0::BQ769x0::set_head» = λ d d' head e count h.
       subst⁻¹ Fits e (subst⁻¹ (λ (n : ℕ). d.readings.spread ≡ spread_of (first_cells n d.readings.wired)) count h);
-  «bq769x0::BQ769x0::store_calibration» = λ d adc r e h. subst⁻¹ Fits e h;
-  «bq769x0::BQ769x0::store_readings» = λ d readings r e h. subst⁻¹ Fits e h;
-  «setup::calibrate::read_adc_characteristics» = λ d b r log e.
+  «bq769x0::BQ769x0::store_calibration» = λ d d' adc e h. subst⁻¹ Fits e h;
+  «bq769x0::BQ769x0::store_readings» = λ d d' readings e h. subst⁻¹ Fits e h;
+  «setup::calibrate::read_adc_characteristics» = λ d d' b after a e.
       subst⁻¹ (λ (x : Ran (Left Done)). KeptWhole d x.answer.device) e
       ((read_adc_sound d b, read_adc_fits d b), read_adc_readings d.readings d b refl);
-  «setup::init» = λ d config b r log e. init_kept d config b e;
-  «recovered::init» = λ d config b r log e. init_kept d config b e;
-  «in_place::init» = λ d d' config b r log e. init_kept d config b e;
-  «cells::crate_list::cell_voltages» = λ d list list' b r log e. cells_kept d list b e;
-  «cells::wired::wired» = λ d inputs inputs' list list' b r log e. wired_kept d inputs list b e;
-  «in_place::cell_voltages» = λ d d' list list' b r log e. cells_kept d list b e;
-  «in_place::wired» = λ d d' inputs inputs' list list' b r log e. wired_kept d inputs list b e;
-  «job_setup::init» = λ job b r log e.
+  «setup::init» = init_kept;
+  «recovered::init» = init_kept;
+  «cells::crate_list::cell_voltages» = λ d d' list list' b after a e.
+      subst⁻¹ (λ (x : Ran Filled). Kept d x.answer.device) e ((λ s. cells_sound d s list b), (λ f. cells_fit d f list b));
+  «cells::wired::wired» = λ d d' inputs inputs' list list' b after a e.
+      subst⁻¹ (λ (x : Ran Shown). Kept d x.answer.device) e
+      ((λ s. wired_sound d s inputs list b), (λ f. wired_fits d f inputs list b));
+  «job_setup::init» = λ d' job b after a e.
       subst⁻¹ (λ (x : Ran (Left Values)). Fits x.answer.device) e (on_tape_lem (keeps.Kept Fits) (job_init job) (job_fits job) b);
-  «firmware::init_cells» = λ job list list' b r log e.
+  «firmware::init_cells» = λ d' job list list' b after a e.
       subst⁻¹ (λ (x : Ran Listed). Fits x.answer.left.device) e (on_tape_lem FitListed (job_cells job list) (job_cells_fit job list) b);
-  «firmware::init_wired» = λ job inputs inputs' list list' b r log e.
+  «firmware::init_wired» = λ d' job inputs inputs' list list' b after a e.
       subst⁻¹ (λ (x : Ran Beside). Fits x.answer.listed.left.device) e
       (on_tape_lem FitBeside (job_wired job inputs list) (job_wired_fits job inputs list) b);
 }

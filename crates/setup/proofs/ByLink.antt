@@ -1,8 +1,6 @@
 -- A stage that needs no more than the link, and the stage of a record: the second does what the first does, and names the record that is left.
 -- Assumes nothing.
 use mathlib.Core.Path.{◌≡◌, refl, sym, ap, ◌∙◌}
-use mathlib.Core.List.{List}
-use Prim.Native.Nat.{ℕ}
 use Rattle.refusals.specs.Refusal.{Answer, value, refused}
 use Rattle.adc.specs.declared.transfer.AdcTransferFunction.{AdcTransferFunction}
 use Rattle.plan.specs.Plan.{Values}
