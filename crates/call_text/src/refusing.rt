@@ -1,39 +1,33 @@
 // A job that is refused, and a call.
 use crate::making;
-use crate::state::State;
-use bus::Cursor;
-use calls::FieldAnswer;
-use job::DeviceAnswer;
+use crate::making::{Call, Lent};
+use bq769x0::BQ769x0;
+use bus::Bus;
 use lines::refused;
+use lines::refused::Want;
 use refusals::Error;
 use std::io;
 
 // A job whose head is none, by where its field 20 and its calls should begin.
-pub fn job(rt: &HostRuntime, input: &[u8], device_at: usize, calls_at: usize) -> io::Result<()> {
-    if input.len() < device_at {
-        return Ok(());
-    }
-    let parsed = job::parse_device(&input[device_at..]);
-    match parsed {
-        DeviceAnswer::Wanted(_) => calls(rt, input, calls_at),
-        DeviceAnswer::Refused(e) => refused::in_job(rt, e, input, device_at, 0x20),
+pub fn job(
+    rt: &(impl Print + Eprint),
+    input: &[u8],
+    device_at: usize,
+    calls_at: usize,
+) -> io::Result<()> {
+    match job::parse_device(input.get(device_at..).unwrap_or(&[])) {
+        Ok(_) => calls(rt, input, calls_at),
+        Err(e) => refused::in_job(rt, e, input, device_at, 0x20),
     }
 }
 
 // The first field that is no call is at fault.
-pub fn calls(rt: &HostRuntime, input: &[u8], calls_at: usize) -> io::Result<()> {
+pub fn calls(rt: &(impl Print + Eprint), input: &[u8], calls_at: usize) -> io::Result<()> {
     let mut at = calls_at;
-    while at < input.len() {
-        let found = calls::field_at(input, at);
-        let FieldAnswer::Found(field) = found else {
-            return field_at(rt, input, at);
-        };
-        let tag = field.tag;
-        let start = field.start;
-        let len = field.len;
-        let end = start + len;
-        if !calls::is_lawful(tag, &input[start..end]) {
-            return field_at(rt, input, at);
+    while let Ok(field) = calls::field_at(input, at) {
+        let end = field.start + field.len;
+        if !calls::is_lawful(field.tag, &input[field.start..end]) {
+            break;
         }
         at = end;
     }
@@ -41,53 +35,27 @@ pub fn calls(rt: &HostRuntime, input: &[u8], calls_at: usize) -> io::Result<()> 
 }
 
 // The field at a place, or field 3F where the job ends there.
-pub fn field_at(rt: &HostRuntime, input: &[u8], at: usize) -> io::Result<()> {
-    let tag = if at < input.len() {
-        input[at]
-    } else {
-        calls::END
-    };
+pub fn field_at(rt: &(impl Print + Eprint), input: &[u8], at: usize) -> io::Result<()> {
+    let tag = input.get(at).copied().unwrap_or(calls::END);
     refused::in_job(rt, Error::BadTape, input, at, tag)
 }
 
-// A call on a state, which left the position `next`.
+// A call on a record, as it was before the call.
 pub(crate) fn call(
-    rt: &HostRuntime,
+    rt: &(impl Print + Eprint),
     e: Error,
-    number: usize,
-    tag: u8,
-    value: &[u8],
-    state: State,
-    tape: &[u8],
-    next: Cursor,
+    call: Call,
+    mut device: BQ769x0,
+    want: Want,
 ) -> io::Result<()> {
     match e {
-        Error::BadTape | Error::TapeEnded => wants(rt, e, number, tag, value, state, tape, next),
-        _ => refused::at_call(rt, e, number),
+        Error::BadTape | Error::TapeEnded => {
+            let again = want.again();
+            let mut log = [0; 256];
+            let bus = &mut Bus::new(&again, &mut log);
+            making::make(call, &mut device, &mut Lent::fresh(), bus);
+            want.print(rt, e, call.number, &log)
+        }
+        _ => refused::at_call(rt, e, call.number),
     }
-}
-
-fn wants(
-    rt: &HostRuntime,
-    e: Error,
-    number: usize,
-    tag: u8,
-    value: &[u8],
-    state: State,
-    tape: &[u8],
-    next: Cursor,
-) -> io::Result<()> {
-    let at = state.at;
-    let mut again = [0u8; 256];
-    let mut log = [0u8; 256];
-    refused::wants(rt, e, number, tape, at, next, &mut again)?;
-    making::make(
-        tag,
-        value,
-        state.device,
-        &again,
-        &mut log,
-        Cursor { tape: 0, log: 0 },
-    );
-    refused::wanted(rt, &log, tape, at, next)
 }

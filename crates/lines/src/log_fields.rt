@@ -1,75 +1,64 @@
-// The fields of a log and of a tape.
-ghost use Rattle.std.specs.Prelude.{◌≤◌};
+// The fields of a log and of a tape: tag, two-byte length, value.
+ghost use Rattle.std.specs.Prelude.{◌≤◌, ◌<◌, length, IfSome};
 
-use std::io;
-use text::Stream;
+use std::fmt;
+use text::Hex;
 
-// The byte k places after place i, or 0 past the end.
-pub(crate) fn byte(bytes: &[u8], i: usize, k: usize) -> u8 {
-    if bytes.len() <= i {
-        return 0;
-    }
-    if bytes.len() - i <= k {
-        return 0;
-    }
-    bytes[i + k]
-}
+// As many bytes of a tape's field as are shown.
+const SHOWN: usize = 16;
 
-// Those from one to another of the bytes after place i.
-pub(crate) fn bytes(
-    rt: &HostRuntime,
-    stream: Stream,
-    bytes: &[u8],
-    i: usize,
-    from: usize,
-    before: usize,
-) -> io::Result<()> {
-    for k in from..before {
-        text::hex_to(rt, stream, byte(bytes, i, k))?;
-    }
-    Ok(())
-}
-
-// Of a write its register and the bytes sent after it, of a read its register and the count of bytes on the bus.
-pub(crate) fn transfer(rt: &HostRuntime, stream: Stream, log: &[u8], i: usize) -> io::Result<()> {
-    if byte(log, i, 0) == 0x11 {
-        text::words_to(rt, stream, b"W")?;
-        bytes(rt, stream, log, i, 4, size(log, i))
-    } else {
-        text::words_to(rt, stream, b"R")?;
-        text::hex_to(rt, stream, byte(log, i, 4))?;
-        let count = numbers::be_u16(byte(log, i, 5), byte(log, i, 6));
-        text::number_to(rt, stream, count as u64)
-    }
-}
-
-// The field's size, with its tag and length.
-pub(crate) fn size(log: &[u8], i: usize) -> usize
+// How long the field is that bytes begin with.
+fn size(bytes: &[u8]) -> usize
     ensures { 3 ≤ result }
 {
-    3 + numbers::be_u16(byte(log, i, 1), byte(log, i, 2)) as usize
-}
-
-pub(crate) fn least(a: usize, b: usize) -> usize {
-    if a < b { a } else { b }
-}
-
-fn line(rt: &HostRuntime, log: &[u8], i: usize) -> io::Result<()> {
-    transfer(rt, text::OUT, log, i)?;
-    text::words(rt, b"\n")
-}
-
-// A line each, of the part of the log that starts at one place and ends before another, or where the log ends.
-pub(crate) fn between(rt: &HostRuntime, log: &[u8], from: usize, before: usize) -> io::Result<()> {
-    let end = least(before, log.len());
-    let mut i = from;
-    while i < end {
-        let size = size(log, i);
-        line(rt, log, i)?;
-        if end - i < size {
-            return Ok(());
-        }
-        i += size;
+    match bytes {
+        [_, high, low, ..] => 3 + numbers::be_u16(*high, *low) as usize,
+        _ => 3,
     }
-    Ok(())
+}
+
+// The field that bytes begin with, where it is whole, and what follows it.
+pub(crate) fn first(bytes: &[u8]) -> Option<(&[u8], &[u8])>
+    ensures { IfSome result (λ parts. length parts.1.now < length bytes.now) }
+{
+    bytes.split_at_checked(size(bytes))
+}
+
+// A field of a log: of a write its register and the bytes sent after it, of a read its register and the count of bytes on the bus.
+#[derive(Drop)]
+pub(crate) struct Transfer<'a>(pub &'a [u8]);
+
+impl fmt::Display for Transfer<'_> {
+    fn fmt<W: fmt::Write>(&self, f: &mut fmt::Formatter<W>) -> fmt::Result {
+        match self.0 {
+            [0x11, _, _, _, sent @ ..] => write!(f, "W{}", Hex(sent)),
+            [_, _, _, _, register, high, low] => {
+                write!(f, "R {register:02X} {}", numbers::be_u16(*high, *low))
+            }
+            _ => Ok(()),
+        }
+    }
+}
+
+// The field that is left of a tape, as far as it is there, and shown.
+#[derive(Drop)]
+pub(crate) struct Held<'a>(pub &'a [u8]);
+
+impl fmt::Display for Held<'_> {
+    fn fmt<W: fmt::Write>(&self, f: &mut fmt::Formatter<W>) -> fmt::Result {
+        let left = self.0;
+        if left.is_empty() {
+            return f.write_str(" nothing");
+        }
+        let size = size(left);
+        let there = size.min(left.len());
+        write!(f, "{}", Hex(&left[..there.min(SHOWN)]))?;
+        if SHOWN < there {
+            f.write_str(" ..")?;
+        }
+        if left.len() < size {
+            f.write_str(", and then ends")?;
+        }
+        Ok(())
+    }
 }

@@ -5,16 +5,17 @@ use Rattle.calls.proofs.Steps.{starts, inside}
 use Rattle.call_text.proofs.refusing.calls.Goals as goal
 
 pub overflow_add-end : goal.overflow_add-end
-overflow_add-end c =
-    let h = inside _ _ _ (sym c.in-Found.ensures) in
+overflow_add-end g c =
+    let h = inside _ _ _ (sym c.in-Ok.ensures) in
     search rules
 
 pub slice_bounds-is_lawful-end : goal.slice_bounds-is_lawful-end
-slice_bounds-is_lawful-end c =
-    let h = inside _ _ _ (sym c.in-Found.ensures) in
+slice_bounds-is_lawful-end g c =
+    let h = inside _ _ _ (sym c.in-Ok.ensures) in
     search rules
 
-pub loop-at-smaller : goal.loop-at-smaller
-loop-at-smaller c =
-    let s = starts _ _ _ (sym c.in-Found.ensures) in
+pub loop-field-smaller : goal.loop-field-smaller
+loop-field-smaller g c =
+    let s = starts _ _ _ (sym c.in-Ok.ensures) in
+    let h = inside _ _ _ (sym c.in-Ok.ensures) in
     omega arith
