@@ -17,9 +17,9 @@ use Rattle.refusals.specs.Refusal.{Answer, value}
 use Rattle.frames.specs.Frames.{read_byte, right, data_of, write_frame}
 use Rattle.frames.specs.Put.{put}
 use Rattle.frames.proofs.Put.{put_all}
-use Rattle.bus.specs.Transfers.{Transfer, read, write, Bus, outcome, after}
-use Rattle.bus.specs.Programs.{Prog, ends, on_tape}
-use Rattle.bus.specs.Raw.{Done, sound, refuses, Read, gives, compared, read_raw, ask_back, send, write_raw}
+use Rattle.bus.specs.Transfers.{read, write, Bus, outcome, after}
+use Rattle.bus.specs.Programs.{ends, on_tape}
+use Rattle.bus.specs.Raw.{Done, sound, refuses, Read, gives, compared, read_raw, send, write_raw}
 use Rattle.bus.specs.declared.link.Link.{Link}
 use Rattle.bus.proofs.Raws.{zeros, checked_goes, read_checked, read_plain, send_goes, write_done, write_back}
 use Rattle.raw.specs.Inside.{Reply, whole, taken, ReadBy, SentBy, EchoedBy}

@@ -1,9 +1,8 @@
 -- A read that was not done refuses; one that was done is compared.
 -- Assumes nothing.
-use Rattle.std.proofs.Common.{ℕ, ◌≡◌, length, take, replicate, Ok, Err, arith, refl, sym, ap, ◌∙◌}
+use Rattle.std.proofs.Common.{length, replicate, Ok, Err, refl, sym}
 use Rattle.std.proofs.lemmas.Result.{err_from_is_err_and}
 use lib.Seq.{length-take-le}
-use Rattle.bus.specs.Raw.{as_raw}
 use Rattle.raw.proofs.Asked.{back_off, back_on}
 use Rattle.raw.proofs.verify.Goals as goal
 

@@ -1,7 +1,7 @@
 -- Done by the short way, with check bytes and without.
 -- Assumes nothing.
 use Rattle.std.proofs.Common.{ℕ, List, Bool, [], ◌∷◌, ◌++◌, ◌≡◌, ◌+◌, ◌*◌, ◌≤◌, ◌&&◌, eqb, leb, length, get_or, take, drop, replicate}
-use Rattle.std.proofs.Common.{arith, rules, refl, sym, ap, ap₂, ◌∙◌}
+use Rattle.std.proofs.Common.{arith, sym, ap, ◌∙◌}
 use mathlib.Core.Bool.{true, not, and-eq-true_iff}
 use lib.Seq.{length-take-le}
 use borrow.Author.Tests.{leb-true, eqb-false, not-true}
@@ -73,10 +73,10 @@ returns-then-echoed c =
     plain_part a.link.address a.reg n (x ∷ y ∷ z ∷ [])
     ∙ ap (◌∷◌ a.reg)
     (first_are bytes x y z fit.few c.byte_at.ensures c.byte_at-then-is_sound-reg.ensures c.byte_at-then-is_sound-reg-2.ensures) in
-    let none = length-take-le n (replicate 3 0) fit.few in
+    let none : length (take {A = ℕ} n (replicate 3 0)) ≡ n = length-take-le n (replicate 3 0) fit.few in
     let back : List ℕ = c.echoed.new.back in
     let back_is : take n (back ++ drop n (replicate 3 0)) ≡ back = in_front_is (replicate 3 0) back n (c.echoed.auto.back ∙ none) in (
-      echoed_well a.link a.reg bytes _ fit.ok (omega (arith, fit.few)) (λ z. omega (arith, fit.some)) fit.within _ c.if-link.false
+      echoed_well a.link a.reg bytes _ fit.ok (omega (arith, fit.few)) (λ z. omega (arith, fit.some)) fit.within (take n (replicate 3 0)) c.if-link.false
           (framed ∙ plain_frame a.link.address _ _) c.if-echoed.ensures.0 none c.echoed.auto.back
           (c.compare.ensures ∙ ap (compared a.reg bytes) back_is),
       c.if-echoed.ensures.1,

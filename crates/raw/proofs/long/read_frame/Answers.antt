@@ -1,6 +1,6 @@
 -- The frame is read into zeros, and what it gives is taken from it.
 -- Assumes nothing.
-use Rattle.std.proofs.Common.{ℕ, List, ◌≡◌, ◌*◌, ◌≤◌, length, take, replicate, Ok, Err, arith, ◌∙◌}
+use Rattle.std.proofs.Common.{ℕ, List, ◌≡◌, ◌*◌, ◌≤◌, length, take, replicate, arith, ◌∙◌}
 use Rattle.std.proofs.lemmas.Result.{err_from_is_err_and}
 use lib.Seq.{length-take-le}
 use Rattle.bus.proofs.Raws.{zeros}

@@ -1,6 +1,6 @@
 -- Done by the short way, with a check byte and without.
 -- Assumes nothing.
-use Rattle.std.proofs.Common.{ℕ, List, true, ◌≡◌, ◌+◌, ◌*◌, ◌≤◌, length, replicate, arith, rules, sym, ◌∙◌}
+use Rattle.std.proofs.Common.{◌≡◌, ◌+◌, ◌≤◌, length, arith, rules, sym, ◌∙◌}
 use mathlib.Core.Bool.{and-eq-true_iff}
 use Rattle.raw.proofs.Quick.{five, reads_plain, read_well, frame_well}
 use Rattle.raw.proofs.short.read_one.Goals as goal

@@ -1,6 +1,6 @@
 -- Done by the short way, with check bytes and without.
 -- Assumes nothing.
-use Rattle.std.proofs.Common.{ℕ, List, Bool, true, ◌≡◌, ◌+◌, ◌*◌, ◌≤◌, ◌&&◌, leb, length, replicate, arith, rules, sym, ◌∙◌}
+use Rattle.std.proofs.Common.{ℕ, Bool, true, ◌≡◌, ◌+◌, ◌≤◌, ◌&&◌, leb, length, arith, rules, sym, ◌∙◌}
 use mathlib.Core.Bool.{and-eq-true_iff}
 use borrow.Author.Tests.{leb-true}
 use Rattle.bus.specs.Raw.{sound}

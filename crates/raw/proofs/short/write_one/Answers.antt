@@ -1,6 +1,6 @@
 -- Done by the short way, with a check byte and without.
 -- Assumes nothing.
-use Rattle.std.proofs.Common.{ℕ, List, [], ◌∷◌, ◌≡◌, ◌+◌, ◌≤◌, length, replicate, arith, rules, refl, sym, ap, ◌∙◌}
+use Rattle.std.proofs.Common.{◌∷◌, ◌≡◌, ◌+◌, ◌≤◌, length, replicate, arith, rules, sym, ap, ◌∙◌}
 use mathlib.Core.Bool.{and-eq-true_iff}
 use Rattle.raw.proofs.Quick.{one, reads_plain, sent_well, echoed_well}
 use Rattle.raw.proofs.Writes.{one_checked, plain_frame}

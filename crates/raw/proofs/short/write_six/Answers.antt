@@ -1,6 +1,6 @@
 -- Done by the short way, with check bytes and without.
 -- Assumes nothing.
-use Rattle.std.proofs.Common.{ℕ, List, Bool, [], ◌∷◌, ◌≡◌, ◌+◌, ◌≤◌, ◌&&◌, leb, length, replicate, arith, rules, sym, ap, ◌∙◌}
+use Rattle.std.proofs.Common.{ℕ, Bool, ◌∷◌, ◌≡◌, ◌+◌, ◌≤◌, ◌&&◌, leb, length, replicate, arith, rules, sym, ap, ◌∙◌}
 use mathlib.Core.Bool.{true, and-eq-true_iff}
 use borrow.Author.Tests.{leb-true}
 use Rattle.bus.specs.Raw.{sound}

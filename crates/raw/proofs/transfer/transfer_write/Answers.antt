@@ -1,6 +1,6 @@
 -- Where the transfer is not made the bus stays; where it is, its field stands in the log.
 -- Assumes nothing.
-use Rattle.std.proofs.Common.{ℕ, List, ◌≡◌, ◌+◌, ◌≤◌, length, drop, arith, refl}
+use Rattle.std.proofs.Common.{ℕ, List, ◌≡◌, ◌+◌, length, drop, arith, refl}
 use Rattle.std.proofs.lemmas.Result.{err_from_is_err_and}
 use Rattle.fields.specs.Fields.{field}
 use Rattle.bus.specs.Transfers.{write, Bus, log_field, wanted, outcome, answered}

@@ -1,7 +1,7 @@
 -- Where log and tape go so far and the tape says that both were done, the write is done, and the read on what it left.
 -- Assumes nothing.
 use Rattle.std.proofs.Common.{◌+◌, ◌≤◌, length, arith, sym, ◌∙◌}
-use mathlib.Core.Bool.{false, and-eq-true_iff}
+use mathlib.Core.Bool.{and-eq-true_iff}
 use borrow.Author.Tests.{leb-true}
 use Rattle.bus.specs.Transfers.{write, wanted}
 use Rattle.bus.specs.Lent.{held}
@@ -14,9 +14,9 @@ put-requires c =
     let a = c.args in
     let rooms = (and-eq-true_iff _ _).0 c.if-not-room.false in
     let dones = (and-eq-true_iff _ _).0 c.if-can.true in
+    let room : a.bus.now.at.log + (4 + length a.frame.now + 7) ≤ length a.bus.now.log.now = leb-true _ _ (sym c.has_room.ensures ∙ rooms.0) in
     record {
-      heard = well (write a.address a.frame.now) (held a.bus.now)
-          (omega (arith, need a.address a.frame.now, leb-true _ _ (sym c.has_room.ensures ∙ rooms.0))) (c.is_done.ensures dones.0);
+      heard = well (write a.address a.frame.now) (held a.bus.now) (omega (arith, need a.address a.frame.now, room)) (c.is_done.ensures dones.0);
     }
 
 pub take-requires-clause-heard : goal.take-requires-clause-heard

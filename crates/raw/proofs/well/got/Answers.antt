@@ -1,7 +1,7 @@
 -- Where the log has room and the tape says that all was done, the read is done.
 -- Assumes nothing.
-use Rattle.std.proofs.Common.{ℕ, ◌+◌, ◌≤◌, length, sym, ◌∙◌}
-use mathlib.Core.Bool.{false, and-eq-true_iff}
+use Rattle.std.proofs.Common.{length, sym, ◌∙◌}
+use mathlib.Core.Bool.{and-eq-true_iff}
 use borrow.Author.Tests.{leb-true}
 use Rattle.fields.specs.Fields.{field}
 use Rattle.bus.specs.Transfers.{read, log_field, wanted}

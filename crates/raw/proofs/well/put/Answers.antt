@@ -1,6 +1,6 @@
 -- The field of the write stands in the log.
 -- Assumes nothing.
-use Rattle.std.proofs.Common.{◌≡◌, ◌+◌, ◌≤◌, length, arith, refl}
+use Rattle.std.proofs.Common.{◌+◌, length, arith, refl}
 use native.Mathlib.Nat.{add-zero}
 use Rattle.bus.specs.Transfers.{write, log_field, wanted}
 use Rattle.bus.specs.Lent.{held}

@@ -2,12 +2,11 @@
 -- Assumes nothing.
 use Rattle.std.proofs.Common.{◌≡◌, ◌+◌, ◌≤◌, length, take, drop, arith, refl, sym, ◌∙◌}
 use native.Mathlib.Nat.{add-sub_cancel_left}
-use Rattle.frames.specs.Put.{put}
 use Rattle.frames.proofs.Put.{put_all}
 use Rattle.fields.specs.Fields.{field}
 use Rattle.bus.specs.Transfers.{read, log_field, wanted}
 use Rattle.bus.specs.Lent.{held}
-use Rattle.raw.proofs.Moves.{room, there, length_bytes, read_by}
+use Rattle.raw.proofs.Moves.{room, length_bytes, read_by}
 use Rattle.raw.proofs.well.take.Goals as goal
 
 pub log_read-requires : goal.log_read-requires
