@@ -5,16 +5,21 @@ use mathlib.Core.Bool.{Bool, true, false, cond, ◌&&◌, and-eq-true_iff}
 use mathlib.Core.List.{List, []}
 use Prim.Native.Nat.{ℕ, ◌+◌, ◌≤◌, ◌<◌}
 use native.Mathlib.Omega.{arith}
-use lib.ListN.{length, take, drop, length-drop}
+use lib.ListN.{length, get_or, take, drop, length-drop}
 use lib.Seq.{length-take-le}
 use lib.Dec.{eqb, leb, ltb}
-use borrow.Author.Tests.{le-leb, lt-leb, leb-true, leb-false, eq-eqb, eqb-true}
+use borrow.Author.Tests.{le-leb, lt-leb, leb-true, leb-false, ltb-true, ltb-false, eq-eqb, eqb-true}
 use Rattle.fields.specs.Fields.{Field, unfield}
 use Rattle.fields.proofs.Fields.{field_of, said, cut_short, all_there}
 use Rattle.refusals.specs.Refusal.{Answer, value, refused, no}
+use Rattle.protection.specs.Delays.{scd_delays, ocd_delays, uv_delays, ov_delays, delay_for}
+use Rattle.protection.specs.declared.delays.SCDDelay.TheVariants as S
+use Rattle.protection.specs.declared.delays.OCDDelay.TheVariants as O
+use Rattle.protection.specs.declared.delays.UVDelay.TheVariants as U
+use Rattle.protection.specs.declared.delays.OVDelay.TheVariants as W
 use Rattle.plan.specs.Order.{◌and_then◌}
 use Rattle.job.specs.Jobs.{byte_at, device_at, is_device, config_at, codes_at, is_config, passing, field_for, device_for, job_of, device_of, config_of}
-use Rattle.job.specs.Inside.{says_field, says_device, says_job}
+use Rattle.job.specs.Inside.{says_field, says_device, says_job, listed_config}
 use Rattle.job.specs.declared.Job.{Job}
 use Rattle.job.proofs.Places.{from_drop, byte_of}
 
@@ -37,6 +42,36 @@ never : {A : Type 0} (a b m : Bool) (x : A) → a && b ≡ false → only (a && 
 never true true m x e = absurd (subst (λ (t : Bool). cond t (Unit {0}) ⊥) e tt)
 never true false m x e = refl
 never false b m x e = refl
+
+-- ---- the delays' codes are in their lists
+in_list : {D : Type 0} (first : D) (delays : List D) (code : ℕ)
+    → delay_for first delays code ≡ only (ltb code (length delays)) (get_or delays code first)
+in_list first delays code = by (ltb code (length delays)) refl
+  where
+    by : (t : Bool) → ltb code (length delays) ≡ t → delay_for first delays code ≡ only t (get_or delays code first)
+    by true e = rw (lt-leb _ _ (ltb-true _ _ e))
+    by false e = rw (le-leb _ _ (ltb-false _ _ e))
+
+all_four : {A B C D E : Type 0} (a b c d : Bool) (x : A) (y : B) (z : C) (w : D) (made : A → B → C → D → E)
+    → (only a x and_then λ x. only b y and_then λ y. only c z and_then λ z. only d w and_then λ w. value (made x y z w))
+    ≡ only (a && b && c && d) (made x y z w)
+unfolding ◌and_then◌
+all_four true true true true x y z w made = refl
+all_four true true true false x y z w made = refl
+all_four true true false d x y z w made = refl
+all_four true false c d x y z w made = refl
+all_four false b c d x y z w made = refl
+
+pub listed_by_tests : (bytes : List ℕ) (i : ℕ) → listed_config bytes i ≡ only (codes_at bytes i) (config_at bytes i)
+unfolding listed_config codes_at
+listed_by_tests bytes i =
+    rw (
+      in_list S._70uS scd_delays (byte_at bytes (i + 20)),
+      in_list O._8ms ocd_delays (byte_at bytes (i + 21)),
+      in_list U._1s uv_delays (byte_at bytes (i + 22)),
+      in_list W._1s ov_delays (byte_at bytes (i + 23)),
+    )
+    (all_four _ _ _ _ _ _ _ _ _)
 
 -- both ways alike
 abbrev fifteen : Answer Job

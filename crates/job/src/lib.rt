@@ -52,14 +52,8 @@ fn is_field(job: &[u8], at: usize, tag: u8, len: u16) -> bool
     (job[at] == tag) & (said == len)
 }
 
-#[tactic(auto, unfolding(crate::specs::Inside::says_device))]
-fn is_device(job: &[u8]) -> bool
-    ensures { result ≡ says_device job.now }
-{
-    7 <= job.len() && is_field(job, 0, 0x20, 4) && job[6] < 2
-}
-
 // The configuration whose first byte is at `at`, or 15 where a code is past its list.
+#[tactic(auto, using(plan::proofs::Order::in_turn), unfolding(crate::specs::Inside::listed_config))]
 fn config_at(job: &[u8], at: usize) -> Result<Config, Error>
     requires { at + 24 ≤ length job.now }
     ensures { as_config result ≡ listed_config job.now at }
@@ -78,10 +72,11 @@ fn config_at(job: &[u8], at: usize) -> Result<Config, Error>
 }
 
 // The device that bytes begin with, or 15.
+#[tactic(auto, using(crate::proofs::ByTests::device_by_tests), unfolding(crate::specs::Inside::says_device))]
 pub fn parse_device(job: &[u8]) -> Result<Device, Error>
     ensures { as_device result ≡ device_for job.now }
 {
-    if !is_device(job) {
+    if job.len() < 7 || !is_field(job, 0, 0x20, 4) || 2 <= job[6] {
         return Err(Error::BadTape);
     }
     Ok(Device {
@@ -93,6 +88,7 @@ pub fn parse_device(job: &[u8]) -> Result<Device, Error>
 }
 
 // The configuration that is a field's whole value, or 15.
+#[tactic(auto, using(crate::proofs::ByTests::listed_by_tests), unfolding(crate::specs::Jobs::config_for, crate::specs::Jobs::is_config))]
 pub fn parse_config(value: &[u8]) -> Result<Config, Error>
     ensures { as_config result ≡ config_for value.now }
 {
@@ -102,6 +98,7 @@ pub fn parse_config(value: &[u8]) -> Result<Config, Error>
     config_at(value, 0)
 }
 
+#[tactic(auto, unfolding(crate::specs::Jobs::config_for))]
 pub fn is_config(value: &[u8]) -> bool
     ensures { result ≡ is_config value.now }
 {
@@ -109,6 +106,7 @@ pub fn is_config(value: &[u8]) -> bool
 }
 
 // The job that bytes begin with, or 15. The tape starts at TAPE_AT.
+#[tactic(auto, using(crate::proofs::ByTests::device_by_tests, crate::proofs::ByTests::job_by_tests, crate::proofs::ByTests::listed_by_tests), unfolding(crate::specs::Inside::says_job))]
 pub fn parse(job: &[u8]) -> Result<Job, Error>
     ensures { as_job result ≡ job_of job.now }
 {
