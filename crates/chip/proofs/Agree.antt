@@ -4,9 +4,8 @@ use mathlib.Core.Path.{◌≡◌, sym, ap, ◌∙◌}
 use mathlib.Core.List.{List}
 use mathlib.Core.Option.{Option}
 use Prim.Native.Nat.{ℕ}
-use Rattle.chip.specs.Answering.{answer_on}
+use Rattle.chip.specs.Answering.{Answered, answer_on}
 use Rattle.chip.specs.declared.Chip.{Chip}
-use Rattle.chip.specs.declared.answer.Answered.{Answered}
 
 -- `Chip::answer`
 pub answer_agree : (cut : Option ℕ) (c : Chip) (field tape : List ℕ) (end : ℕ) (r r' : Answered) (out out' : List ℕ)

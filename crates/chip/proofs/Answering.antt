@@ -2,16 +2,18 @@
 -- the bytes of a read in it.
 -- Assumes nothing.
 use mathlib.Core.Path.{◌≡◌, refl, sym, ap, ap₂, ◌∙◌}
-use mathlib.Core.Bool.{Bool, true, false, not, ◌&&◌, ◌||◌, false≢true, and-eq-true_iff}
+use mathlib.Core.Bool.{Bool, true, false, ◌&&◌, and-false, false≢true, and-eq-true_iff}
 use mathlib.Core.List.{List, [], ◌∷◌}
 use mathlib.Core.Option.{Option, none, some, bind}
-use Prim.Native.Nat.{ℕ, suc, ◌+◌, ◌-◌, ◌/◌, ◌%◌, ◌≤◌, ◌<◌}
+use Prim.Native.Nat.{ℕ, suc, ◌+◌, ◌-◌, ◌/◌, ◌%◌, ◌≤◌, ◌<◌, min}
 use native.Mathlib.Numerals.{add-one, add-two}
 use native.Mathlib.Omega.{arith}
 use lib.ListN.{length, take, drop, get_or, set, length-drop}
 use lib.Seq.{take_all, take-length, drop-length}
-use lib.Dec.{eqb, leb, eqb-suc-suc}
-use borrow.Author.Tests.{le-leb, lt-leb, leb-true, ne_eqb, eqb-true, eqb-false}
+use lib.Dec.{eqb, leb}
+use borrow.Author.Tests.{le-leb, lt-leb, leb-true, leb-false, eq-eqb, ne_eqb, eqb-true, eqb-false}
+use Rattle.std.specs.Prelude.{unwrap_or, Some, None}
+use Rattle.std.specs.Prelude as code
 use Rattle.frames.specs.Put.{put}
 use Rattle.frames.proofs.Put.{put_put, sets_put}
 use Rattle.laws.specs.Choice.{when◌then◌else◌}
@@ -21,7 +23,7 @@ use Rattle.fields.specs.Fields.{field, unfield}
 use Rattle.bus.specs.Transfers.{Transfer, write, read, Outcome, done, fault, tape_field}
 use Rattle.fields.proofs.Fields.{field_of}
 use Rattle.chip.specs.Answering.{transfer_of, answered_with, tells, answer_on}
-use Rattle.chip.specs.Inside.{saying}
+use Rattle.chip.specs.Inside.{saying, told}
 use Rattle.chip.specs.Devices.{reached}
 use Rattle.chip.specs.Chip.{begun, answers, shows, carried, respond_cut}
 use Rattle.chip.specs.declared.Chip.{Chip}
@@ -49,17 +51,17 @@ module _ (c d : Chip) (good : Bool) (v tape : List ℕ) (end : ℕ) where
   abbrev f : List ℕ
   f = field (tag good) v
 
-  told : tells c (reached (saying good v) d) tape end
+  tells_is : tells c (reached (saying good v) d) tape end
       ≡ (when leb (end + length f) (length tape) then (put tape end f, answered_with d (end + length f)) else (tape, answered_with c end))
   unfolding tells
-  told = rw (said good v)
+  tells_is = rw (said good v)
 
   size : length f ≡ 3 + length v
   unfolding field
   size = omega arith
 
   pub no_room : length tape < end + (3 + length v) → (tape, answered_with c end) ≡ tells c (reached (saying good v) d) tape end
-  no_room h = sym (told ∙ rw (lt-leb (end + length f) (length tape) (omega (arith, size))))
+  no_room h = sym (tells_is ∙ rw (lt-leb (end + length f) (length tape) (omega (arith, size))))
 
   -- by the stores that the code makes: the head, and then the value
   pub with_room : end + (3 + length v) ≤ length tape → (n : ℕ) → length v ≡ n → (t : ℕ) → t ≡ tag good
@@ -70,7 +72,7 @@ module _ (c d : Chip) (good : Bool) (v tape : List ℕ) (end : ℕ) where
   with_room h n long t is filled e =
       let to : end + 3 + length v ≡ end + length f = omega (arith, size) in
       let put_is : filled ≡ put tape end f = e ∙ rw (is, ← long) (put_head tape end _ _ _ v h) in
-      rw (put_is, ← long, to) (sym (told ∙ rw (le-leb (end + length f) (length tape) (omega (arith, size)))))
+      rw (put_is, ← long, to) (sym (tells_is ∙ rw (le-leb (end + length f) (length tape) (omega (arith, size)))))
 
 pub few_begun : (check : Bool) (r n : ℕ) → r + begun check n ≤ 256 → n ≤ 512
 unfolding begun
@@ -83,16 +85,10 @@ unfolding begun
 begun_none true = omega arith
 begun_none false = omega arith
 
--- ---- two tests, one of which fails, or neither
-pub both : (a b : Bool) → not a || not b ≡ false → (a ≡ true) × (b ≡ true)
-both true true h = (refl, refl)
-both true false h = absurd (false≢true (sym h))
-both false b h = absurd (false≢true (sym h))
-
-not_both : (a b : Bool) → not a || not b ≡ true → (a && b) ≡ false
-not_both true true h = absurd (false≢true h)
-not_both true false h = refl
-not_both false b h = refl
+-- where there was no room, as where there was one
+pub unwrapped : (c : Chip) (end : ℕ) (o : code.Option ℕ) → answered_with c (unwrap_or o end) ≡ told c c end o
+unwrapped c end None = refl
+unwrapped c end (Some n) = refl
 
 -- ---- a transfer to another address
 module _ (cut : Option ℕ) (c : Chip) (a : ℕ) (other : a ≡ c.address → ⊥) where
@@ -115,19 +111,17 @@ module _ (c : Chip) (a r n : ℕ) where
   asked = read a r n
 
   -- it is answered at the chip's address, where it passes no register FF
-  abbrev passes : Bool
-  passes = not (eqb a c.address) || not (leb (r + begun c.check n) 256)
-
-  pub read_away : (cut : Option ℕ) → passes ≡ true → reached (saying false []) c ≡ respond_cut cut c asked
+  pub read_away : (cut : Option ℕ) → (a ≡ c.address → ⊥) → reached (saying false []) c ≡ respond_cut cut c asked
   unfolding answers
-  read_away cut away =
-      sym (unanswered cut c asked (not_both (eqb a c.address) (leb (r + begun c.check n) 256) away))
+  read_away cut away = sym (unanswered cut c asked (rw (ne_eqb a c.address away)))
 
-  pub read_here : passes ≡ false → answers c asked ≡ true
+  pub read_past_end : (cut : Option ℕ) → leb (r + begun c.check n) 256 ≡ false → reached (saying false []) c ≡ respond_cut cut c asked
   unfolding answers
-  read_here here =
-      let b = both (eqb a c.address) (leb (r + begun c.check n) 256) here in
-      ap₂ ◌&&◌ b.0 b.1
+  read_past_end cut past = sym (unanswered cut c asked (rw past (and-false (eqb a c.address))))
+
+  pub read_here : a ≡ c.address → leb (r + begun c.check n) 256 ≡ true → answers c asked ≡ true
+  unfolding answers
+  read_here own within = rw (eq-eqb a c.address own, within)
 
   all : (k : ℕ) → n ≤ k → take k (shows c r n) ≡ shows c r n
   all k h = take_all k (shows c r n) (omega (arith, length_shows c r n))
@@ -137,12 +131,20 @@ module _ (c : Chip) (a r n : ℕ) where
     unfolding carried
     read_whole = ap (λ (v : List ℕ). reached (done v) c) (all n (omega arith)) ∙ sym (responds none c asked there)
 
-    pub read_cut : (k : ℕ) → reached (saying false (take k (shows c r n))) c ≡ respond_cut (some k) c asked
+    pub read_cut : (k : ℕ) → reached (saying false (take (min n k) (shows c r n))) c ≡ respond_cut (some k) c asked
     unfolding carried
-    read_cut k = sym (responds (some k) c asked there)
-
-    pub read_past : (k : ℕ) → n ≤ k → reached (saying false (take n (shows c r n))) c ≡ respond_cut (some k) c asked
-    read_past k h = ap (λ (v : List ℕ). reached (fault v) c) (all n (omega arith) ∙ sym (all k h)) ∙ read_cut k
+    read_cut k =
+        ap (λ (v : List ℕ). reached (fault v) c) (by (leb n k) refl) ∙ sym (responds (some k) c asked there)
+      where
+        by : (t : Bool) → leb n k ≡ t → take (min n k) (shows c r n) ≡ take k (shows c r n)
+        by true e =
+            let few = leb-true n k e in
+            let least : min n k ≡ n = omega arith in
+            rw least (all n (omega arith) ∙ sym (all k few))
+        by false e =
+            let many = leb-false n k e in
+            let least : min n k ≡ k = omega arith in
+            rw least
 
 -- ---- the transfer that a log field is
 module _ (t high low : ℕ) (v : List ℕ) where
@@ -209,12 +211,17 @@ module _ (t high low x : ℕ) (v : List ℕ) where
   unfolding unlog
   is_read e size = rw (e, size)
 
-  is_other : (t ≡ 0x11 → ⊥) → (eqb t 0x12 && eqb (length bytes) 7) ≡ false → unlog (field_of t (x ∷ v) []) ≡ none
+  is_other : (t ≡ 0x11 → ⊥) → (t ≡ 0x12 → length bytes ≡ 7 → ⊥) → unlog (field_of t (x ∷ v) []) ≡ none
   unfolding unlog
-  is_other other e =
-      let four : eqb (length bytes) 7 ≡ eqb (suc (length v)) 4 =
-      eqb-suc-suc (suc (suc (suc (length v)))) 6 ∙ eqb-suc-suc (suc (suc (length v))) 5 ∙ eqb-suc-suc (suc (length v)) 4 in
-      rw (ne_eqb t 0x11 other) (rw (rw four at e))
+  is_other other short = rw (ne_eqb t 0x11 other) (by (eqb t 0x12) (eqb (suc (length v)) 4) refl refl)
+    where
+      by : (r n : Bool) → eqb t 0x12 ≡ r → eqb (suc (length v)) 4 ≡ n
+          → (when r && n then some (read x (get_or v 0 0) (word (get_or v 1 0) (get_or v 2 0))) else none) ≡ none
+      by false n e f = refl
+      by true false e f = refl
+      by true true e f =
+          let four = eqb-true (suc (length v)) 4 f in
+          absurd (short (eqb-true t 0x12 e) (omega arith))
 
 pub at_least : (l : List ℕ) → one_field l ≡ true → 4 ≤ length l
 at_least l e = leb-true 4 (length l) ((and-eq-true_iff (leb 4 (length l)) _).0 e).0
@@ -247,26 +254,20 @@ write_field =
     by_value (λ l. get_or l 0 0 ≡ 0x11 → transfer_of l ≡ some (write (get_or l 3 0) (take (length l - 4) (drop 4 l))))
     (λ t high low x v e tag. long_whole t high low x v e ∙ is_write t high low x v tag)
 
-pub read_field : (l : List ℕ) → one_field l ≡ true → not (eqb (get_or l 0 0) 0x12) || not (eqb (length l) 7) ≡ false
+pub read_field : (l : List ℕ) → one_field l ≡ true → get_or l 0 0 ≡ 0x12 → length l ≡ 7
     → transfer_of l ≡ some (read (get_or l 3 0) (get_or l 4 0) (word (get_or l 5 0) (get_or l 6 0)))
 read_field =
     by_value
-    (λ l. not (eqb (get_or l 0 0) 0x12) || not (eqb (length l) 7) ≡ false
+    (λ l. get_or l 0 0 ≡ 0x12 → length l ≡ 7
     → transfer_of l ≡ some (read (get_or l 3 0) (get_or l 4 0) (word (get_or l 5 0) (get_or l 6 0))))
-    (λ t high low x v e is.
-    let b = both (eqb t 0x12) (eqb (length (bytes t high low x v)) 7) is in
-    let size = eqb-true (length (bytes t high low x v)) 7 b.1 in
-    long_whole t high low x v e ∙ is_read t high low x v (eqb-true t 0x12 b.0) (omega arith))
+    (λ t high low x v e tag size. long_whole t high low x v e ∙ is_read t high low x v tag (omega arith))
 
-pub other_field : (l : List ℕ) → one_field l ≡ true
-    → (get_or l 0 0 ≡ 0x11 → ⊥) → not (eqb (get_or l 0 0) 0x12) || not (eqb (length l) 7) ≡ true
+pub other_field : (l : List ℕ) → one_field l ≡ true → (get_or l 0 0 ≡ 0x11 → ⊥) → (get_or l 0 0 ≡ 0x12 → length l ≡ 7 → ⊥)
     → transfer_of l ≡ none
 other_field =
     by_value
-    (λ l. (get_or l 0 0 ≡ 0x11 → ⊥) → not (eqb (get_or l 0 0) 0x12) || not (eqb (length l) 7) ≡ true → transfer_of l ≡ none)
-    (λ t high low x v e other is.
-    long_whole t high low x v e
-    ∙ is_other t high low x v other (not_both (eqb t 0x12) (eqb (length (bytes t high low x v)) 7) is))
+    (λ l. (get_or l 0 0 ≡ 0x11 → ⊥) → (get_or l 0 0 ≡ 0x12 → length l ≡ 7 → ⊥) → transfer_of l ≡ none)
+    (λ t high low x v e other short. long_whole t high low x v e ∙ is_other t high low x v other short)
 
 -- ---- the answer, by the transfer
 module _ (cut : Option ℕ) (c : Chip) (l tape : List ℕ) (end : ℕ) where

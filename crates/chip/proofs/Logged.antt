@@ -11,10 +11,9 @@ use Rattle.frames.specs.Put.{put}
 use Rattle.fields.specs.Fields.{unfield}
 use Rattle.bus.specs.Transfers.{Transfer, log_field, tape_field}
 use Rattle.bus.proofs.Decoders.{Short, unlog_log}
-use Rattle.chip.specs.Answering.{transfer_of, answered_with, tells, answer_on}
+use Rattle.chip.specs.Answering.{transfer_of, Answered, answered_with, tells, answer_on}
 use Rattle.chip.specs.Chip.{respond_cut}
 use Rattle.chip.specs.declared.Chip.{Chip}
-use Rattle.chip.specs.declared.answer.Answered.{Answered}
 use Rattle.chip.proofs.Answering.{answer_some}
 
 -- a transfer's field in the log reads back as that transfer

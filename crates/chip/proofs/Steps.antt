@@ -9,13 +9,13 @@ use native.Mathlib.Omega.{arith}
 use lib.ListN.{length, drop, get_or, set, drop_of_length-le, length-drop}
 use lib.Seq.{drop-cons, get_or-take}
 use lib.Bits.{bit_and}
-use lib.Dec.{eqb, leb, eqb-suc-suc}
+use lib.Dec.{eqb, leb}
 use borrow.Author.Tests.{eq-eqb, ne_eqb, leb-true, leb-false}
 use Rattle.check_byte.specs.CheckByte.{check_byte}
-use Rattle.frames.specs.Frames.{write_byte, read_byte, checked, framed, read_frame}
-use Rattle.frames.proofs.Steps.{next, shifted}
+use Rattle.frames.specs.Frames.{read_byte, checked, framed, read_frame}
+use Rattle.frames.proofs.Steps.{next, before_at, at_later}
 use Rattle.laws.specs.Choice.{when◌then◌else◌}
-use Rattle.chip.specs.Chip.{with_regs, begun, arrives, stores, agreed, held, shows}
+use Rattle.chip.specs.Chip.{begun, arrives, stores, agreed, held, shows}
 use Rattle.chip.specs.declared.Chip.{Chip}
 use Rattle.chip.proofs.Shows.{length_held}
 
@@ -76,11 +76,6 @@ module _ (r i : ℕ) (bytes regs : List ℕ) where
   unfolding stores
   stores_end h = rw (drop_of_length-le bytes h)
 
--- ---- with checks: the first check byte of a write covers the address byte and the register too
-pub first_covered : (address r x : ℕ) {c : ℕ} → c ≡ check_byte (address * 2 % 256 ∷ r ∷ x ∷ [])
-    → c ≡ check_byte ((write_byte address ∷ r ∷ []) ++ x ∷ [])
-first_covered address r x e = e ∙ ap (λ (y : ℕ). check_byte (y ∷ r ∷ x ∷ [])) (shifted address)
-
 -- ---- with checks: a byte and its check byte
 module _ (before l : List ℕ) (i : ℕ) where
   next_agreed : i + 1 < length l
@@ -101,58 +96,54 @@ module _ (before l : List ℕ) (i : ℕ) where
       by (x ∷ []) k = refl
       by (x ∷ y ∷ m) k = absurd (omega arith)
 
-  module _ (c : ℕ) (h : i + 1 < length l) (e : c ≡ check_byte (before ++ get_or l i 0 ∷ [])) where
-    agreed_wrong : (c ≡ get_or l (i + 1) 0 → ⊥) → agreed before (drop i l) ≡ []
-    agreed_wrong n = next_agreed h ∙ rw (ne_eqb _ _ (λ m. n (e ∙ sym m)))
+-- so many agree as have been passed and as agree of the rest
+module _ (head l : List ℕ) (i : ℕ) where
+  abbrev pub so_many : ℕ
+  so_many = i + length (agreed (before_at head i) (drop (2 * i) l))
 
-    agreed_right : c ≡ get_or l (i + 1) 0 → agreed before (drop i l) ≡ get_or l i 0 ∷ agreed [] (drop (i + 2) l)
-    agreed_right m = next_agreed h ∙ rw (eq-eqb _ _ (sym m ∙ e))
+  pub agreeing_end : length l ≤ 2 * i + 1 → so_many ≡ i
+  agreeing_end h = omega (arith, ap length (agreed_end (before_at head i) l (2 * i) h))
 
--- whether every check byte that came is right
-abbrev pub all_right : List ℕ → List ℕ → Bool
-all_right before l = eqb (length (agreed before l)) (length l / 2)
+  module _ (c : ℕ) (h : 2 * i + 1 < length l) (e : c ≡ check_byte (before_at head i ++ get_or l (2 * i) 0 ∷ [])) where
+    pub agreeing_wrong : (c ≡ get_or l (2 * i + 1) 0 → ⊥) → so_many ≡ i
+    agreeing_wrong n =
+        let none : agreed (before_at head i) (drop (2 * i) l) ≡ [] =
+        next_agreed (before_at head i) l (2 * i) h ∙ rw (ne_eqb _ _ (λ m. n (e ∙ sym m))) in
+        omega (arith, ap length none)
 
-module _ (before l : List ℕ) (i : ℕ) where
-  pub right_end : length l ≤ i + 1 → true ≡ all_right before (drop i l)
-  right_end h =
-      sym (eq-eqb _ _ (ap length (agreed_end before l i h) ∙ omega (arith, length-drop i l)))
+    pub agreeing_right : c ≡ get_or l (2 * i + 1) 0 → so_many ≡ i + 1 + length (agreed (before_at head (i + 1)) (drop (2 * (i + 1)) l))
+    agreeing_right m =
+        let later : before_at head (i + 1) ≡ [] = at_later head (i + 1) (λ n. omega arith) in
+        let after : 2 * (i + 1) ≡ 2 * i + 2 = omega arith in
+        let some : agreed (before_at head i) (drop (2 * i) l) ≡ get_or l (2 * i) 0 ∷ agreed [] (drop (2 * i + 2) l) =
+        next_agreed (before_at head i) l (2 * i) h ∙ rw (eq-eqb _ _ (sym m ∙ e)) in
+        rw (later, after) (omega (arith, ap length some))
 
-  module _ (c : ℕ) (h : i + 1 < length l) (e : c ≡ check_byte (before ++ get_or l i 0 ∷ [])) where
-    pub right_wrong : (c ≡ get_or l (i + 1) 0 → ⊥) → false ≡ all_right before (drop i l)
-    right_wrong n =
-        let none = ap length (agreed_wrong before l i c h e n) in
-        sym (ne_eqb (length (agreed before (drop i l))) (length (drop i l) / 2) (λ same. omega (arith, none, length-drop i l)))
+-- those that agree are every other byte, and there are no more than pairs
+pub agreed_at : (before l : List ℕ) (i : ℕ) → i < length (agreed before l) → get_or (agreed before l) i 0 ≡ get_or l (2 * i) 0
+unfolding agreed
+agreed_at before [] i h = absurd (omega arith)
+agreed_at before (x ∷ []) i h = absurd (omega arith)
+agreed_at before (x ∷ c ∷ l) i h = by (agreed_at [] l) (eqb c (check_byte (before ++ x ∷ []))) i h
+  where
+    by : ((j : ℕ) → j < length (agreed [] l) → get_or (agreed [] l) j 0 ≡ get_or l (2 * j) 0) → (t : Bool) (i : ℕ)
+        → i < length (when t then x ∷ agreed [] l else [])
+        → get_or (when t then x ∷ agreed [] l else []) i 0 ≡ get_or (x ∷ c ∷ l) (2 * i) 0
+    by rest false i h = absurd (omega arith)
+    by rest true zero h = refl
+    by rest true (suc i) h =
+        let two : 2 * suc i ≡ suc (suc (2 * i)) = omega arith in
+        rw two (rest i (omega arith))
 
-    pub right_on : c ≡ get_or l (i + 1) 0 → (i' : ℕ) → i' ≡ i + 2 → all_right [] (drop i' l) ≡ all_right before (drop i l)
-    right_on m i' at =
-        let half : length (drop i l) / 2 ≡ suc (length (drop (i + 2) l) / 2) =
-        omega (arith, length-drop i l, length-drop (i + 2) l) in
-        rw at (sym (ap (λ (v : List ℕ). eqb (length v) (length (drop i l) / 2)) (agreed_right before l i c h e m)
-        ∙ ap (eqb (suc (length (agreed [] (drop (i + 2) l))))) half
-        ∙ eqb-suc-suc (length (agreed [] (drop (i + 2) l))) (length (drop (i + 2) l) / 2)))
-
--- the same of a chip
-module _ (c : Chip) (r : ℕ) (before l : List ℕ) (i : ℕ) where
-  abbrev all : Chip
-  all = with_regs c (stores r (agreed before (drop i l)) c.regs)
-
-  abbrev storing : List ℕ → Chip
-  storing v = with_regs c (stores r v c.regs)
-
-  pub chip_end : length l ≤ i + 1 → c ≡ all
-  unfolding stores
-  chip_end h = sym (ap storing (agreed_end before l i h))
-
-  module _ (x : ℕ) (h : i + 1 < length l) (e : x ≡ check_byte (before ++ get_or l i 0 ∷ [])) where
-    pub chip_wrong : (x ≡ get_or l (i + 1) 0 → ⊥) → c ≡ all
-    unfolding stores
-    chip_wrong n = sym (ap storing (agreed_wrong before l i x h e n))
-
-    pub chip_right : x ≡ get_or l (i + 1) 0 → (d : Chip) → d ≡ with_regs c (arrives r (get_or l i 0) c.regs)
-        → (r' i' : ℕ) → r' ≡ r + 1 → i' ≡ i + 2
-        → with_regs d (stores r' (agreed [] (drop i' l)) d.regs) ≡ all
-    unfolding stores
-    chip_right m d is r' i' er ei = rw (is, er, ei, add-one) (sym (ap storing (agreed_right before l i x h e m)))
+pub agreed_few : (before l : List ℕ) → 2 * length (agreed before l) ≤ length l
+unfolding agreed
+agreed_few before [] = omega arith
+agreed_few before (x ∷ []) = omega arith
+agreed_few before (x ∷ c ∷ l) = by (agreed_few [] l) (eqb c (check_byte (before ++ x ∷ [])))
+  where
+    by : 2 * length (agreed [] l) ≤ length l → (t : Bool) → 2 * length (when t then x ∷ agreed [] l else []) ≤ length (x ∷ c ∷ l)
+    by rest true = omega arith
+    by rest false = omega arith
 
 -- ---- the bytes of a read, one by one
 get_d_held : (r n k : ℕ) (regs : List ℕ) → k < n → get_or (held r n regs) k 0 ≡ get_or regs (r + k) 0
@@ -171,23 +162,18 @@ get_d_data before (x ∷ bytes) (suc k) =
     let two : 2 * suc k ≡ suc (suc (2 * k)) = omega arith in
     rw two (get_d_data [] bytes k)
 
--- what the check byte of data byte k covers besides it
-abbrev covered : List ℕ → ℕ → List ℕ
-covered before zero = before
-covered before (suc k) = []
-
-covered_none : (k : ℕ) → covered [] k ≡ []
-covered_none zero = refl
-covered_none (suc k) = refl
+before_none : (k : ℕ) → before_at [] k ≡ []
+before_none zero = refl
+before_none (suc k) = refl
 
 get_d_check : (before bytes : List ℕ) (k : ℕ) → k < length bytes
-    → get_or (checked before bytes) (2 * k + 1) 0 ≡ check_byte (covered before k ++ get_or bytes k 0 ∷ [])
+    → get_or (checked before bytes) (2 * k + 1) 0 ≡ check_byte (before_at before k ++ get_or bytes k 0 ∷ [])
 unfolding checked
 get_d_check before [] k h = absurd (omega arith)
 get_d_check before (x ∷ bytes) zero h = refl
 get_d_check before (x ∷ bytes) (suc k) h =
     let two : 2 * suc k + 1 ≡ suc (suc (2 * k + 1)) = omega arith in
-    rw two (get_d_check [] bytes k (omega arith) ∙ rw (covered_none k))
+    rw two (get_d_check [] bytes k (omega arith) ∙ rw (before_none k))
 
 module _ (c : Chip) (r n i : ℕ) (within : i < n) where
   shown_frame : (check : Bool) → c.check ≡ check
@@ -210,7 +196,7 @@ module _ (c : Chip) (r n i : ℕ) (within : i < n) where
         ∙ get_d_held r ((n + 1) / 2) (i / 2) c.regs (omega arith))
 
     shown_covered : (k : ℕ) → i ≡ 2 * k + 1
-        → check_byte (covered (read_byte c.address ∷ []) k ++ get_or c.regs (r + k) 0 ∷ []) ≡ get_or (shows c r n) i 0
+        → check_byte (before_at (read_byte c.address ∷ []) k ++ get_or c.regs (r + k) 0 ∷ []) ≡ get_or (shows c r n) i 0
     unfolding read_frame framed begun
     shown_covered k odd =
         let regs = held r ((n + 1) / 2) c.regs in

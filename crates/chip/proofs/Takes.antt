@@ -4,10 +4,9 @@ use mathlib.Core.Path.{◌≡◌, refl, sym, ap, ◌∙◌}
 use mathlib.Core.Bool.{Bool, true, false, ◌&&◌}
 use mathlib.Core.List.{List, [], ◌∷◌}
 use mathlib.Core.Option.{Option, none, some}
-use Prim.Native.Nat.{ℕ, suc, ◌+◌, ◌-◌, ◌≤◌, ◌<◌}
+use Prim.Native.Nat.{ℕ, ◌+◌, ◌/◌, ◌≤◌}
 use native.Mathlib.Omega.{arith}
-use lib.ListN.{length, take, drop, get_or}
-use lib.Seq.{take-length}
+use lib.ListN.{length}
 use lib.Dec.{eqb, leb}
 use borrow.Author.Tests.{leb-true, eq-eqb}
 use Rattle.frames.specs.Frames.{write_byte}
@@ -15,21 +14,10 @@ use Rattle.laws.specs.Choice.{when◌then◌else◌}
 use Rattle.bus.specs.Transfers.{Transfer, write, Outcome, done, fault}
 use Rattle.chip.specs.Inside.{saying}
 use Rattle.chip.specs.Devices.{Reached, reached}
-use Rattle.chip.specs.Chip.{with_regs, begun, complete, stores, accepted, stored_of, written, acknowledged}
+use Rattle.chip.specs.Chip.{with_regs, begun, complete, stores, agreed, accepted, stored_of, written, acknowledged}
 use Rattle.chip.specs.Chip.{answers, carried, respond_cut}
 use Rattle.chip.specs.declared.Chip.{Chip}
 use Rattle.chip.proofs.Answers.{own_empty, own_write, responds, unanswered}
-use Rattle.chip.proofs.Steps.{all_right}
-
--- what follows the first byte
-abbrev pub rest : List ℕ → List ℕ
-rest l = take (length l - 1) (drop 1 l)
-
-head_rest : (l : List ℕ) → 0 < length l → l ≡ get_or l 0 0 ∷ rest l
-head_rest [] h = absurd (omega arith)
-head_rest (x ∷ l) h =
-    let one : suc (length l) - 1 ≡ length l = omega arith in
-    ap (◌∷◌ x) (sym (rw one (take-length l)))
 
 empty : (l : List ℕ) → length l ≡ 0 → l ≡ []
 empty [] e = refl
@@ -43,32 +31,35 @@ module _ (c : Chip) (l : List ℕ) where
   unfolding written
   written_none e = sym (ap (written c) (empty l e))
 
-  module _ (more : 0 < length l) where
-    length_rest : length (rest l) ≡ length l - 1
-    length_rest = omega (arith, ap length (head_rest l more))
+  pub acknowledged_none : length l ≡ 0 → true ≡ acknowledged c l
+  unfolding acknowledged
+  acknowledged_none e = sym (ap (acknowledged c) (empty l e))
 
-    is : answers c (write c.address l) ≡ leb (get_or l 0 0 + begun c.check (length (rest l))) 256
-    is = ap (λ (m : List ℕ). answers c (write c.address m)) (head_rest l more) ∙ own_write c (get_or l 0 0) (rest l)
+  module _ (r : ℕ) (bytes : List ℕ) (is : l ≡ r ∷ bytes) where
+    pub answered_some : leb (r + begun c.check (length bytes)) 256 ≡ answers c (write c.address l)
+    answered_some = sym (ap (λ (m : List ℕ). answers c (write c.address m)) is ∙ own_write c r bytes)
 
-    pub answered_some : leb (get_or l 0 0 + begun c.check (length l - 1)) 256 ≡ answers c (write c.address l)
-    answered_some = sym (is ∙ rw length_rest)
-
-    pub rest_within : answers c (write c.address l) ≡ true → (check : Bool) → c.check ≡ check
-        → get_or l 0 0 + begun check (length (rest l)) ≤ 256
-    rest_within h check e = rw e at (leb-true (get_or l 0 0 + begun c.check (length (rest l))) 256 (sym is ∙ h))
-
-    written_some : written c l ≡ with_regs c (stores (get_or l 0 0) (stored_of c (get_or l 0 0) (rest l)) c.regs)
-    unfolding written
-    written_some = ap (written c) (head_rest l more)
+    pub rest_within : answers c (write c.address l) ≡ true → (check : Bool) → c.check ≡ check → r + begun check (length bytes) ≤ 256
+    rest_within h check e = rw e at (leb-true (r + begun c.check (length bytes)) 256 (answered_some ∙ h))
 
     pub written_by : (check : Bool) → c.check ≡ check
-        → with_regs c (stores (get_or l 0 0) (accepted check (write_byte c.address ∷ get_or l 0 0 ∷ []) (rest l)) c.regs)
-        ≡ written c l
-    unfolding stored_of
-    written_by check e =
-        let same : accepted check (write_byte c.address ∷ get_or l 0 0 ∷ []) (rest l)
-        ≡ stored_of c (get_or l 0 0) (rest l) = rw e in
-        ap (λ (v : List ℕ). with_regs c (stores (get_or l 0 0) v c.regs)) same ∙ sym written_some
+        → with_regs c (stores r (accepted check (write_byte c.address ∷ r ∷ []) bytes) c.regs) ≡ written c l
+    unfolding written stored_of
+    written_by check e = rw (is, e)
+
+    acknowledged_some : (check : Bool) → c.check ≡ check
+        → acknowledged c l ≡ eqb (length (accepted check (write_byte c.address ∷ r ∷ []) bytes)) (complete check (length bytes))
+    unfolding acknowledged stored_of
+    acknowledged_some check e = rw (is, e)
+
+    pub acknowledged_alone : c.check ≡ false → true ≡ acknowledged c l
+    unfolding accepted complete
+    acknowledged_alone e = sym (acknowledged_some false e ∙ eq-eqb (length bytes) (length bytes) refl)
+
+    pub acknowledged_checked : c.check ≡ true
+        → eqb (length (agreed (write_byte c.address ∷ r ∷ []) bytes)) (length bytes / 2) ≡ acknowledged c l
+    unfolding accepted complete
+    acknowledged_checked e = sym (acknowledged_some true e)
 
 -- ---- the chip after a transfer that is answered, and after one that is not
 module _ (cut : Option ℕ) (c : Chip) (t : Transfer) where
@@ -80,26 +71,6 @@ module _ (cut : Option ℕ) (c : Chip) (t : Transfer) where
 
 -- ---- how a write is answered
 module _ (c : Chip) (l : List ℕ) where
-  pub acknowledged_none : length l ≡ 0 → true ≡ acknowledged c l
-  unfolding acknowledged
-  acknowledged_none e = sym (ap (acknowledged c) (empty l e))
-
-  module _ (more : 0 < length l) where
-    acknowledged_some : (check : Bool) → c.check ≡ check
-        → acknowledged c l
-        ≡ eqb (length (accepted check (write_byte c.address ∷ get_or l 0 0 ∷ []) (rest l))) (complete check (length (rest l)))
-    unfolding acknowledged stored_of
-    acknowledged_some check e = ap (acknowledged c) (head_rest l more) ∙ rw e
-
-    pub acknowledged_alone : c.check ≡ false → true ≡ acknowledged c l
-    unfolding accepted complete
-    acknowledged_alone e = sym (acknowledged_some false e ∙ eq-eqb (length (rest l)) (length (rest l)) refl)
-
-    pub acknowledged_checked : c.check ≡ true
-        → all_right (write_byte c.address ∷ get_or l 0 0 ∷ []) (rest l) ≡ acknowledged c l
-    unfolding accepted complete
-    acknowledged_checked e = sym (acknowledged_some true e)
-
   abbrev sent : Transfer
   sent = write c.address l
 

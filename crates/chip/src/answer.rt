@@ -1,13 +1,12 @@
 // The chip's answer to a transfer: the transfer is a field of a log, and the answer the next field of a tape.
 // `specs/Answering.antt` says which.
-ghost use Rattle.std.specs.Prelude.{◌≡◌, ◌&&◌, [], ◌∷◌, ℕ, ◌+◌, ◌-◌, ◌/◌, ◌≤◌, eqb, leb, length, take, get_or};
+ghost use Rattle.std.specs.Prelude.{◌≡◌, ◌&&◌, [], ◌∷◌, ℕ, ◌+◌, ◌-◌, ◌≤◌, eqb, leb, length, take, get_or, unwrap_or};
 ghost use Rattle.numbers.specs.Numbers.{word};
-ghost use Rattle.frames.specs.Frames.{write_byte};
 ghost use Rattle.frames.specs.Put.{put};
 ghost use Rattle.laws.specs.Choice.{when◌then◌else◌};
 ghost use Rattle.bus.specs.Transfers.{read, write};
 ghost use Rattle.chip.specs.Devices.{reached};
-ghost use Rattle.chip.specs.Chip.{begun, agreed, acknowledged, shows, respond_cut};
+ghost use Rattle.chip.specs.Chip.{begun, acknowledged, shows, respond_cut};
 ghost use Rattle.chip.specs.Answering.{as_cut, answered_with, tells, answer_on};
 ghost use Rattle.chip.specs.Inside.{saying, told};
 
@@ -29,18 +28,14 @@ fn tag_of(good: bool) -> u8
 }
 
 impl Chip {
-    // With checks, whether every check byte that came is right.
-    fn agrees(&self, reg: u8, bytes: &[u8]) -> bool
-        ensures { result ≡ eqb (length (agreed (write_byte self.now.address ∷ reg ∷ []) bytes.now))
-            (length bytes.now / 2) }
-    {
-        self.agreeing(reg, bytes) == bytes.len() / 2
-    }
-
+    // Whether every check byte that came is right.
     fn acknowledges(&self, bytes: &[u8]) -> bool
         ensures { result ≡ acknowledged self.now bytes.now }
     {
-        bytes.len() == 0 || !self.check || self.agrees(bytes[0], &bytes[1..])
+        match bytes.split_first() {
+            Some((reg, data)) => !self.check || self.agreeing(*reg, data) == data.len() / 2,
+            None => true,
+        }
     }
 
     // Whether a write is done, and no fault.
@@ -48,7 +43,10 @@ impl Chip {
         ensures { (respond_cut (as_cut cut) self.now (write self.now.address bytes.now)).answer
             ≡ saying result [] }
     {
-        cut.is_none() && self.is_answered(bytes) && self.acknowledges(bytes)
+        match cut {
+            Some(_) => false,
+            None => self.is_answered(bytes) && self.acknowledges(bytes),
+        }
     }
 
     // The first n bytes of a read, however long, onto the tape.
@@ -63,13 +61,13 @@ impl Chip {
         }
     }
 
-    // Done, or a fault, with the first n bytes of a read, however long, and how far the tape is then filled; where it has no room, nothing.
+    // Done, or a fault, with the first n bytes of a read, however long, and how far the tape is then filled; nothing where it has no room.
     fn reply(&self, good: bool, reg: u8, n: usize, tape: &mut [u8], end: usize) -> Option<usize>
         requires { reg + begun self.now.check n ≤ 256 }
         ensures { (after : Chip) (m : ℕ) → n ≤ m → (tape.new, told self.now after end result)
             ≡ tells self.now (reached (saying good (take n (shows self.now reg m))) after) tape.old end }
     {
-        if tape.len() < end || tape.len() - end < 3 + n {
+        if tape.len().saturating_sub(end) < 3 + n {
             return None;
         }
         tape[end] = tag_of(good);
@@ -87,19 +85,17 @@ impl Chip {
         cut: Option<usize>,
         tape: &mut [u8],
         end: usize,
-    ) -> usize
-        ensures { (tape.new, answered_with self.now result)
+    ) -> Option<usize>
+        ensures { (tape.new, answered_with self.now (unwrap_or result end))
             ≡ tells self.now (respond_cut (as_cut cut) self.now (read address reg n)) tape.old end }
     {
-        let said = if address != self.address || !self.is_within(reg, n) {
-            self.reply(false, 0, 0, tape, end)
-        } else {
-            match cut {
-                Some(k) => self.reply(false, reg, n.min(k), tape, end),
-                None => self.reply(true, reg, n, tape, end),
-            }
-        };
-        said.unwrap_or(end)
+        if address != self.address || !self.is_within(reg, n) {
+            return self.reply(false, 0, 0, tape, end);
+        }
+        match cut {
+            Some(k) => self.reply(false, reg, n.min(k), tape, end),
+            None => self.reply(true, reg, n, tape, end),
+        }
     }
 
     fn answer_write(
@@ -109,18 +105,16 @@ impl Chip {
         cut: Option<usize>,
         tape: &mut [u8],
         end: usize,
-    ) -> usize
-        ensures { (tape.new, answered_with self.new result)
+    ) -> Option<usize>
+        ensures { (tape.new, answered_with self.new (unwrap_or result end))
             ≡ tells self.old (respond_cut (as_cut cut) self.old (write address bytes.now)) tape.old end }
     {
         if address != self.address {
-            return self.reply(false, 0, 0, tape, end).unwrap_or(end);
+            return self.reply(false, 0, 0, tape, end);
         }
-        let Some(next) = self.reply(self.is_done(bytes, cut), 0, 0, tape, end) else {
-            return end;
-        };
+        let next = self.reply(self.is_done(bytes, cut), 0, 0, tape, end)?;
         self.write(bytes, cut);
-        next
+        Some(next)
     }
 
     // The chip's answer to the transfer of a log field, whole or cut after so many bytes behind the address byte, put on the tape from
@@ -132,13 +126,16 @@ impl Chip {
         if !is_field(field) {
             return end;
         }
-        match field[0] {
-            0x11 => self.answer_write(field[3], &field[4..], cut, tape, end),
-            0x12 if field.len() == 7 => {
-                let count = numbers::be_u16(field[5], field[6]) as usize;
-                self.answer_read(field[3], field[4], count, cut, tape, end)
-            }
-            _ => end,
+        if field[0] == 0x11 {
+            return self
+                .answer_write(field[3], &field[4..], cut, tape, end)
+                .unwrap_or(end);
         }
+        if field[0] != 0x12 || field.len() != 7 {
+            return end;
+        }
+        let count = numbers::be_u16(field[5], field[6]) as usize;
+        self.answer_read(field[3], field[4], count, cut, tape, end)
+            .unwrap_or(end)
     }
 }

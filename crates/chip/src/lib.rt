@@ -79,6 +79,7 @@ impl Chip {
     }
 
     // With checks each byte whose check byte agrees, up to the first that does not.
+    #[tactic(auto, using(crate::proofs::Steps::agreed_few), unfolding(crate::specs::Chip::begun))]
     fn store_checked(&mut self, reg: u8, bytes: &[u8])
         requires { reg + begun true (length bytes.now) ≤ 256 }
         ensures { self.new ≡ with_regs self.old (stores reg (agreed (write_byte self.old.address ∷ reg ∷ []) bytes.now) self.old.regs) }
@@ -99,7 +100,10 @@ impl Chip {
     fn is_answered(&self, bytes: &[u8]) -> bool
         ensures { result ≡ answers self.now (write self.now.address bytes.now) }
     {
-        bytes.len() == 0 || self.is_within(bytes[0], bytes.len() - 1)
+        match bytes.split_first() {
+            Some((reg, data)) => self.is_within(*reg, data.len()),
+            None => true,
+        }
     }
 
     // The register, and then the data.
@@ -107,13 +111,13 @@ impl Chip {
         requires { answers self.old (write self.old.address bytes.now) ≡ true }
         ensures { self.new ≡ written self.old bytes.now }
     {
-        if bytes.len() == 0 {
+        let Some((reg, data)) = bytes.split_first() else {
             return;
-        }
+        };
         if self.check {
-            self.store_checked(bytes[0], &bytes[1..]);
+            self.store_checked(*reg, data);
         } else {
-            self.store_alone(bytes[0], &bytes[1..]);
+            self.store_alone(*reg, data);
         }
     }
 
@@ -125,8 +129,8 @@ impl Chip {
             return;
         }
         match cut {
-            Some(n) if n < bytes.len() => self.take_in(&bytes[..n]),
-            _ => self.take_in(bytes),
+            Some(n) => self.take_in(&bytes[..n.min(bytes.len())]),
+            None => self.take_in(bytes),
         }
     }
 

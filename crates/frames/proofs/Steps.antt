@@ -55,12 +55,20 @@ abbrev pub before_at : List ℕ → ℕ → List ℕ
 before_at head zero = head
 before_at head (suc i) = []
 
-pub at_first : (head : List ℕ) (i : ℕ) → i ≡ 0 → before_at head i ≡ head
-at_first head i e = rw e
-
 pub at_later : (head : List ℕ) (i : ℕ) → (i ≡ 0 → ⊥) → before_at head i ≡ []
 at_later head zero ne = absurd (ne refl)
 at_later head (suc i) ne = refl
+
+-- a check byte of the code, by the place of its data byte
+module _ (address reg x i c : ℕ) where
+  abbrev pub covers : Type 0
+  covers = c ≡ check_byte (before_at (write_byte address ∷ reg ∷ []) i ++ x ∷ [])
+
+  pub covers_head : i ≡ 0 → c ≡ check_byte (address * 2 % 256 ∷ reg ∷ x ∷ []) → covers
+  covers_head first e = rw (first, ← shifted address) e
+
+  pub covers_byte : (i ≡ 0 → ⊥) → c ≡ check_byte (x ∷ []) → covers
+  covers_byte later e = rw (at_later (write_byte address ∷ reg ∷ []) i later) e
 
 -- a byte and its check byte are stored, and the rest follows
 pub stored : (head l out : List ℕ) (i c : ℕ) → i < length l → 2 * i + 2 < length out → c ≡ check_byte (before_at head i ++ get_or l i 0 ∷ [])

@@ -1,21 +1,17 @@
--- `Chip::acknowledges` meets its contract.
+-- By the register and what follows it, or by no byte.
 -- Assumes nothing.
-use Rattle.std.proofs.Common.{◌∙◌, rules}
-use borrow.Author.Tests.{not-true, not-false}
+use Rattle.std.proofs.Common.{ℕ, ◌/◌, not, ap, ◌∙◌, eqb, length}
 use Rattle.chip.proofs.Takes.{acknowledged_none, acknowledged_alone, acknowledged_checked}
 use Rattle.chip.proofs.Chip.acknowledges.Goals as goal
 
-pub returns-then-bytes-eq0 : goal.returns-then-bytes-eq0
-returns-then-bytes-eq0 c =
-    let a = c.args in
-    acknowledged_none a.self a.bytes.now c.if-bytes-eq0.true
-
 pub returns-then-not-self : goal.returns-then-not-self
 returns-then-not-self c =
-    let a = c.args in
-    acknowledged_alone a.self a.bytes.now (search rules) (not-true _ c.if-not-self.true)
+    ap not c.if-not-self.true ∙ acknowledged_alone c.args.self.now c.args.bytes.now _ _ c.in-Some.ensures.cases.0 c.if-not-self.true
 
-pub returns : goal.returns
-returns c =
-    let a = c.args in
-    c.agrees.ensures ∙ acknowledged_checked a.self a.bytes.now (search rules) (not-false _ c.if-not-self.false)
+pub returns-else-not-self : goal.returns-else-not-self
+returns-else-not-self c =
+    ap (λ (n : ℕ). eqb n (length c.in-Some.data.now / 2)) c.agreeing.ensures
+    ∙ acknowledged_checked c.args.self.now c.args.bytes.now _ _ c.in-Some.ensures.cases.0 c.if-not-self.false
+
+pub returns-in-None : goal.returns-in-None
+returns-in-None c = acknowledged_none c.args.self.now c.args.bytes.now c.in-None.ensures.cases

@@ -1,64 +1,61 @@
--- `Chip::answer_read` meets its contract.
+-- By whether the chip answers, and by how it is cut.
 -- Assumes nothing.
-use Rattle.std.proofs.Common.{◌≡◌, sym, ap, ◌∙◌, List, ℕ, zero-le, rules}
-use Rattle.std.proofs.Math.Nat.{le_refl}
-use Rattle.bus.specs.Transfers.{Transfer, Outcome}
-use Rattle.chip.specs.Answering.{as_cut, tells}
-use Rattle.chip.specs.Chip.{respond_cut}
-use Rattle.chip.specs.Devices.{Reached}
+use Rattle.std.proofs.Common.{◌≡◌, ◌+◌, ℕ, List, sym, ap, ◌∙◌, [], false, le_refl, zero-le, arith}
+use borrow.Author.Tests.{leb-true}
+use Rattle.bus.specs.Transfers.{Outcome, read}
+use Rattle.chip.specs.Devices.{Reached, reached}
+use Rattle.chip.specs.Chip.{begun, respond_cut}
+use Rattle.chip.specs.Answering.{Answered, as_cut, tells}
+use Rattle.chip.specs.Inside.{saying}
 use Rattle.chip.specs.declared.Chip.{Chip}
-use Rattle.chip.specs.declared.answer.Answered.{Answered}
-use Rattle.chip.specs.declared.answer.Cut.{Cut}
-use Rattle.chip.proofs.Answers.{read_within}
-use Rattle.chip.proofs.Answering.{begun_none, read_away, read_here, read_whole, read_cut, read_past}
 use Rattle.chip.proofs.Steps.{begun_fewer}
+use Rattle.chip.proofs.Answering.{begun_none, unwrapped, read_away, read_past_end, read_here, read_whole, read_cut}
 use Rattle.chip.proofs.Chip.answer_read.Goals as goal
+use Rattle.chip.proofs.Chip.answer_read.Goals.{then-address-self-via-then-address-self, then-address-self-via-else-address-self+then-not-is_within}
 
-module _ (chip : Chip) (tape : List ℕ) (end : ℕ) where
-  -- the tape and the chip after it, by how the transfer went
-  abbrev after : Reached Chip Outcome → List ℕ × Answered
-  after x = tells chip x tape end
+-- the tape and the chip after it, by how the transfer went
+abbrev after : Chip → List ℕ → ℕ → Reached Chip Outcome → List ℕ × Answered
+after chip tape end x = tells chip x tape end
 
-  -- by how it is cut
-  by_cut : (t : Transfer) {cut k : Cut} {x : Reached Chip Outcome} → cut ≡ k → x ≡ respond_cut (as_cut k) chip t
-      → after x ≡ after (respond_cut (as_cut cut) chip t)
-  by_cut t told is = ap after (is ∙ ap (λ (y : Cut). respond_cut (as_cut y) chip t) (sym told))
-
--- ---- where the chip does not answer
 pub reply-requires : goal.reply-requires
-reply-requires c = begun_none c.args.self.check
+reply-requires c = begun_none c.args.self.now.check
 
 pub returns-then-address-self : goal.returns-then-address-self
 returns-then-address-self c =
     let a = c.args in
-    c.reply.ensures 0 zero-le
-    ∙ ap (after a.self a.tape.now a.end)
-    (read_away a.self a.address a.reg a.n (as_cut a.cut) (rw c.is_within.ensures at c.if-address-self.true))
+    let chip = a.self.now in
+    let refuses : reached (saying false []) chip ≡ respond_cut (as_cut a.cut) chip (read a.address a.reg a.n) =
+    elim c.then-address-self.branch [
+      | then-address-self-via-then-address-self w ↦ read_away chip a.address a.reg a.n (as_cut a.cut) w.if-address-self.true
+      | then-address-self-via-else-address-self+then-not-is_within w ↦
+          read_past_end chip a.address a.reg a.n (as_cut a.cut) (sym w.is_within.ensures ∙ w.if-not-is_within.true)
+    ] in
+    ap (λ (x : Answered). (c.reply.new.tape, x)) (unwrapped chip a.end c.reply.result)
+    ∙ c.reply.ensures chip 0 zero-le
+    ∙ ap (after chip a.tape.now a.end) refuses
 
--- ---- where the chip answers
-pub returns-in_default : goal.returns-in_default
-returns-in_default c =
+pub reply-requires-in-Some : goal.reply-requires-in-Some
+reply-requires-in-Some c =
     let a = c.args in
-    let there = read_here a.self a.address a.reg a.n (rw c.is_within.ensures at c.if-address-self.false) in
-    c.reply-in_default.ensures _ (le_refl _)
-    ∙ by_cut a.self a.tape.now a.end _ c.in_default.is (read_whole a.self a.address a.reg a.n there)
+    begun_fewer a.self.now.check a.reg c.min.result a.n (omega arith)
+    (leb-true (a.reg + begun a.self.now.check a.n) 256 (sym c.if-not-is_within.ensures))
 
-pub returns-then-n-k : goal.returns-then-n-k
-returns-then-n-k c =
+pub returns-in-Some : goal.returns-in-Some
+returns-in-Some c =
     let a = c.args in
-    let there = read_here a.self a.address a.reg a.n (rw c.is_within.ensures at c.if-address-self.false) in
-    c.reply-then-n-k.ensures _ (le_refl _)
-    ∙ by_cut a.self a.tape.now a.end _ c.in-After.is (read_past a.self a.address a.reg a.n there c.in-After.k c.if-n-k.true)
+    let chip = a.self.now in
+    let there = read_here chip a.address a.reg a.n c.if-address-self.false (sym c.if-not-is_within.ensures) in
+    rw c.in-Some.is
+    (ap (λ (x : Answered). (c.reply-in-Some.new.tape, x)) (unwrapped chip a.end c.reply-in-Some.result)
+    ∙ c.reply-in-Some.ensures chip a.n (omega arith)
+    ∙ rw c.min.ensures (ap (after chip a.tape.now a.end) (read_cut chip a.address a.reg a.n there c.in-Some.k)))
 
-pub reply-requires-2 : goal.reply-requires-2
-reply-requires-2 c =
+pub returns-in-None : goal.returns-in-None
+returns-in-None c =
     let a = c.args in
-    let there = read_here a.self a.address a.reg a.n (rw c.is_within.ensures at c.if-address-self.false) in
-    begun_fewer a.self.check a.reg c.in-After.k a.n (search rules) (read_within a.self a.reg a.address a.n there)
-
-pub returns : goal.returns
-returns c =
-    let a = c.args in
-    let there = read_here a.self a.address a.reg a.n (rw c.is_within.ensures at c.if-address-self.false) in
-    c.reply-2.ensures a.n (search rules)
-    ∙ by_cut a.self a.tape.now a.end _ c.in-After.is (read_cut a.self a.address a.reg a.n there c.in-After.k)
+    let chip = a.self.now in
+    let there = read_here chip a.address a.reg a.n c.if-address-self.false (sym c.if-not-is_within.ensures) in
+    rw c.in-None.is
+    (ap (λ (x : Answered). (c.reply-in-None.new.tape, x)) (unwrapped chip a.end c.reply-in-None.result)
+    ∙ c.reply-in-None.ensures chip a.n (le_refl _)
+    ∙ ap (after chip a.tape.now a.end) (read_whole chip a.address a.reg a.n there))

@@ -1,12 +1,11 @@
--- `Chip::answer_write` meets its contract.
+-- To another address, and to the chip's own.
 -- Assumes nothing.
-use Rattle.std.proofs.Common.{ap, ◌∙◌, List, ℕ, zero-le}
+use Rattle.std.proofs.Common.{ℕ, List, ap, ◌∙◌, zero-le}
 use Rattle.bus.specs.Transfers.{Outcome}
-use Rattle.chip.specs.Answering.{as_cut, tells}
 use Rattle.chip.specs.Devices.{Reached}
+use Rattle.chip.specs.Answering.{Answered, as_cut, tells}
 use Rattle.chip.specs.declared.Chip.{Chip}
-use Rattle.chip.specs.declared.answer.Answered.{Answered}
-use Rattle.chip.proofs.Answering.{begun_none, write_elsewhere, write_own}
+use Rattle.chip.proofs.Answering.{begun_none, unwrapped, write_elsewhere, write_own}
 use Rattle.chip.proofs.Chip.answer_write.Goals as goal
 
 -- the tape and the chip after it, by how the transfer went
@@ -14,22 +13,23 @@ abbrev after : Chip → List ℕ → ℕ → Reached Chip Outcome → List ℕ �
 after chip tape end x = tells chip x tape end
 
 pub reply-requires : goal.reply-requires
-reply-requires c = begun_none c.args.self.check
+reply-requires c = begun_none c.args.self.now.check
 
--- to another address
 pub returns-then-address-self : goal.returns-then-address-self
 returns-then-address-self c =
     let a = c.args in
-    c.reply.ensures 0 zero-le
-    ∙ ap (after a.self a.tape.now a.end) (write_elsewhere (as_cut a.cut) a.self a.address c.if-address-self.true a.bytes.now)
+    let chip = a.self.now in
+    ap (λ (x : Answered). (c.reply.new.tape, x)) (unwrapped chip a.end c.reply.result)
+    ∙ c.reply.ensures chip 0 zero-le
+    ∙ ap (after chip a.tape.now a.end) (write_elsewhere (as_cut a.cut) chip a.address c.if-address-self.true a.bytes.now)
 
 pub reply-requires-2 : goal.reply-requires-2
-reply-requires-2 c = begun_none c.args.self.check
+reply-requires-2 c = begun_none c.args.self.now.check
 
--- to the chip's own
 pub returns : goal.returns
 returns c =
     let a = c.args in
-    c.reply-2.ensures 0 zero-le
-    ∙ ap (after a.self a.tape.now a.end)
-    (write_own (as_cut a.cut) a.self a.address a.bytes.now c.if-address-self.false _ c.is_done.ensures _ c.write.ensures)
+    let chip = a.self.now in
+    c.in_ok-next.ensures c.write.new.self 0 zero-le
+    ∙ ap (after chip a.tape.now a.end)
+    (write_own (as_cut a.cut) chip a.address a.bytes.now c.if-address-self.false _ c.is_done.ensures _ c.write.ensures)

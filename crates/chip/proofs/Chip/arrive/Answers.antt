@@ -1,7 +1,6 @@
--- `Chip::arrive` meets its contract.
+-- Status has the bits written as 1 cleared; any other register takes the byte.
 -- Assumes nothing.
-use mathlib.Core.Path.{sym, ap, ◌∙◌}
-use borrow.Author.Rules.{rules}
+use Rattle.std.proofs.Common.{sym, ap, ◌∙◌, rules}
 use Rattle.chip.specs.Chip.{with_regs}
 use Rattle.chip.proofs.Steps.{arrives_status}
 use Rattle.chip.proofs.Stored.{arrives_set}
@@ -9,10 +8,10 @@ use Rattle.chip.proofs.Chip.arrive.Goals as goal
 
 pub returns-then-reg-eq0 : goal.returns-then-reg-eq0
 returns-then-reg-eq0 c =
-    let a = c.args in
-    c.set.ensures ∙ ap (with_regs a.self) (arrives_status a.reg a.byte a.self.regs c.if-reg-eq0.true)
+    let chip = c.args.self.now in
+    ap (with_regs chip) (arrives_status c.args.reg c.args.byte chip.regs c.if-reg-eq0.true)
 
-pub returns : goal.returns
-returns c =
-    let a = c.args in
-    c.set-2.ensures ∙ ap (with_regs a.self) (sym (arrives_set a.reg a.byte a.self.regs (search rules)))
+pub returns-else-reg-eq0 : goal.returns-else-reg-eq0
+returns-else-reg-eq0 c =
+    let chip = c.args.self.now in
+    c.set.ensures ∙ ap (with_regs chip) (sym (arrives_set c.args.reg c.args.byte chip.regs (search rules)))

@@ -1,16 +1,11 @@
--- `Chip::is_answered` meets its contract.
+-- By the register and what follows it, or by no byte.
 -- Assumes nothing.
-use mathlib.Core.Path.{◌∙◌}
-use borrow.Author.Rules.{rules}
+use Rattle.std.proofs.Common.{◌∙◌}
 use Rattle.chip.proofs.Takes.{answered_none, answered_some}
 use Rattle.chip.proofs.Chip.is_answered.Goals as goal
 
-pub returns-then-bytes-eq0 : goal.returns-then-bytes-eq0
-returns-then-bytes-eq0 c =
-    let a = c.args in
-    answered_none a.self a.bytes.now c.if-bytes-eq0.true
+pub returns-in-Some : goal.returns-in-Some
+returns-in-Some c = c.is_within.ensures ∙ answered_some c.args.self.now c.args.bytes.now _ _ c.in-Some.ensures.cases.0
 
-pub returns : goal.returns
-returns c =
-    let a = c.args in
-    c.is_within.ensures ∙ answered_some a.self a.bytes.now (search rules)
+pub returns-in-None : goal.returns-in-None
+returns-in-None c = answered_none c.args.self.now c.args.bytes.now c.in-None.ensures.cases

@@ -1,15 +1,14 @@
--- `Chip::is_within` meets its contract.
+-- By whether there are check bytes.
 -- Assumes nothing.
-use borrow.Author.Rules.{rules}
+use Rattle.std.proofs.Common.{rules}
 use Rattle.chip.proofs.Steps.{within_checked, within_alone}
 use Rattle.chip.proofs.Chip.is_within.Goals as goal
-
-pub returns-then-self : goal.returns-then-self
-returns-then-self c =
-    let a = c.args in
-    rw c.if-self.true (within_checked a.reg a.n (search rules))
+use Rattle.chip.proofs.Chip.is_within.Goals.{then-self, else-self}
 
 pub returns : goal.returns
 returns c =
     let a = c.args in
-    rw c.if-self.false (within_alone a.reg a.n (search rules))
+    elim c.if-self.branch [
+      | then-self w ↦ rw (w.begun-is, w.if-self.true) (within_checked a.reg a.n (search rules))
+      | else-self w ↦ rw (w.begun-is, w.if-self.false) (within_alone a.reg a.n (search rules))
+    ]

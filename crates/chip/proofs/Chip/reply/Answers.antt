@@ -12,24 +12,19 @@ use Rattle.chip.proofs.Chip.reply.Goals as goal
 long : (chip : Chip) (reg n m : ℕ) → n ≤ m → length (take n (shows chip reg m)) ≡ n
 long chip reg n m h = length-take-le n (shows chip reg m) (omega (arith, length_shows chip reg m))
 
-pub returns-then-size-end : goal.returns-then-size-end
-returns-then-size-end c m h =
-    let a = c.args in
-    no_room a.self a.after a.good (take a.n (shows a.self a.reg m)) a.tape.now a.end (omega (arith, long a.self a.reg a.n m h))
-
 pub overflow_add-n : goal.overflow_add-n
-overflow_add-n c =
-    let a = c.args in
-    omega (arith, few_begun a.self.check a.reg a.n c.requires)
+overflow_add-n c = omega (arith, few_begun c.args.self.now.check c.args.reg c.args.n c.requires)
 
-pub returns-then-size-end-2 : goal.returns-then-size-end-2
-returns-then-size-end-2 c m h =
+pub returns-then-saturating_sub-n : goal.returns-then-saturating_sub-n
+returns-then-saturating_sub-n c after m h =
     let a = c.args in
-    no_room a.self a.after a.good (take a.n (shows a.self a.reg m)) a.tape.now a.end (omega (arith, long a.self a.reg a.n m h))
+    let chip = a.self.now in
+    no_room chip after a.good (take a.n (shows chip a.reg m)) a.tape.now a.end (omega (arith, long chip a.reg a.n m h))
 
 pub returns : goal.returns
-returns c m h =
+returns c after m h =
     let a = c.args in
-    let size = long a.self a.reg a.n m h in
-    with_room a.self a.after a.good (take a.n (shows a.self a.reg m)) a.tape.now a.end
+    let chip = a.self.now in
+    let size = long chip a.reg a.n m h in
+    with_room chip after a.good (take a.n (shows chip a.reg m)) a.tape.now a.end
     (omega (arith, size)) a.n size c.tag_of.result c.tag_of.ensures _ (c.show.ensures m h)

@@ -7,41 +7,41 @@ use Rattle.chip.proofs.Steps.{place_alone, place_checked, shown_alone, shown_dat
 use Rattle.chip.proofs.Chip.shown.Goals as goal
 
 -- ---- without checks
-pub overflow_add-at : goal.overflow_add-at
-overflow_add-at c =
+pub overflow_add-result : goal.overflow_add-result
+overflow_add-result c =
     let a = c.args in
-    omega (arith, place_alone a.self a.reg a.i c.requires c.if-not-self.true)
+    omega (arith, place_alone a.self.now a.reg a.i c.requires c.if-not-self.true)
 
-pub bounds-self-at : goal.bounds-self-at
-bounds-self-at c =
+pub bounds-self-reg : goal.bounds-self-reg
+bounds-self-reg c =
     let a = c.args in
-    place_alone a.self a.reg a.i c.requires c.if-not-self.true
+    place_alone a.self.now a.reg a.i c.requires c.if-not-self.true
 
 pub returns-then-not-self : goal.returns-then-not-self
 returns-then-not-self c n h =
     let a = c.args in
-    shown_alone a.self a.reg n a.i h c.if-not-self.true
+    shown_alone a.self.now a.reg n a.i h c.if-not-self.true
 
 -- ---- with checks
-pub bounds-self-at-2 : goal.bounds-self-at-2
-bounds-self-at-2 c =
+pub bounds-self-reg-2 : goal.bounds-self-reg-2
+bounds-self-reg-2 c =
     let a = c.args in
-    place_checked a.self a.reg a.i c.requires c.if-not-self.false
+    place_checked a.self.now a.reg a.i c.requires c.if-not-self.false
 
 pub returns-then-i-eq0 : goal.returns-then-i-eq0
 returns-then-i-eq0 c n h =
     let a = c.args in
-    shown_data a.self a.reg n a.i h c.if-not-self.false c.if-i-eq0.true
+    shown_data a.self.now a.reg n a.i h c.if-not-self.false c.if-i-eq0.true
 
 pub returns-then-i-eq1 : goal.returns-then-i-eq1
 returns-then-i-eq1 c n h =
     let a = c.args in
     c.check_byte2.ensures
-    ∙ ap (λ (x : ℕ). check_byte (x ∷ get_or a.self.regs (a.reg + a.i / 2) 0 ∷ [])) (shifted_one a.self.address)
-    ∙ shown_first a.self a.reg n a.i h c.if-not-self.false c.if-i-eq1.true
+    ∙ ap (λ (x : ℕ). check_byte (x ∷ get_or a.self.now.regs (a.reg + a.i / 2) 0 ∷ [])) (shifted_one a.self.now.address)
+    ∙ shown_first a.self.now a.reg n a.i h c.if-not-self.false c.if-i-eq1.true
 
 pub returns : goal.returns
 returns c n h =
     let a = c.args in
     c.check_byte1.ensures
-    ∙ shown_later a.self a.reg n a.i h c.if-not-self.false c.if-i-eq0.false c.if-i-eq1.false
+    ∙ shown_later a.self.now a.reg n a.i h c.if-not-self.false c.if-i-eq0.false c.if-i-eq1.false

@@ -1,14 +1,8 @@
-use mathlib.Core.Path.{◌≡◌}
-use Prim.Native.Nat.{◌+◌, ◌-◌, ◌≤◌}
-use lib.ListN.{length, drop}
+-- With the bytes that are left stored, the chip is as it has to be.
+use Rattle.std.proofs.Common.{◌≡◌, ◌+◌, drop}
 use Rattle.chip.specs.Chip.{with_regs, stores}
 use Rattle.chip.proofs.Chip.store_alone.Given as goal
 
 abbrev pub invariant-loop-i : goal.invariant-loop-i
 invariant-loop-i l =
-    (with_regs l.out (stores (l.reg + l.i) (drop l.i l.bytes) l.out.regs) ≡ with_regs l.initial.out (stores l.reg l.bytes l.initial.out.regs))
-    × (l.i ≤ length l.bytes)
-    × (l.reg + length l.bytes ≤ 256)
-
-abbrev pub decreases-loop-i : goal.decreases-loop-i
-decreases-loop-i l = length l.bytes - l.i
+    with_regs l.self (stores (l.reg + l.i) (drop l.i l.bytes) l.self.regs) ≡ with_regs l.fn.self (stores l.reg l.bytes l.fn.self.regs)
