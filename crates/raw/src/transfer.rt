@@ -58,6 +58,7 @@ fn hear(tape: &[u8], at: usize, want: usize) -> Result<Made, Error>
     judge(want, tape[at], len)
 }
 
+#[inline(always)]
 pub(crate) fn has_room(size: usize, used: usize, need: usize) -> bool
     ensures { result ≡ leb (used + need) size }
 {
@@ -76,6 +77,7 @@ fn answer(bus: &Bus, want: usize, need: usize) -> Result<Made, Error>
 }
 
 // A field whose value is `first` and then `rest`, into the log at `at`.
+#[inline(always)]
 pub(crate) fn put_field(log: &mut [u8], at: usize, tag: u8, first: u8, rest: &[u8])
     requires { at + (4 + length rest.now) ≤ length log.old }
     ensures { log.new ≡ put log.old at (field tag (first ∷ rest.now)) }
@@ -89,6 +91,7 @@ pub(crate) fn put_field(log: &mut [u8], at: usize, tag: u8, first: u8, rest: &[u
 }
 
 // The field of a read, into the log at `at`.
+#[inline(always)]
 pub(crate) fn log_read(log: &mut [u8], at: usize, address: u8, reg: u8, count: usize)
     requires { at + 7 ≤ length log.old }
     ensures { log.new ≡ put log.old at (log_field (read address reg count)) }

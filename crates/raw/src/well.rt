@@ -8,6 +8,7 @@ use crate::transfer;
 use bus::{Bus, Cursor};
 
 // Whether the tape's next field is that of a transfer that is done, with all that it wants.
+#[inline(always)]
 fn is_done(tape: &[u8], from: usize, want: usize) -> bool
     requires { want ≤ 256 }
     ensures { result ≡ true → Heard want (drop from tape.now)
@@ -20,6 +21,7 @@ fn is_done(tape: &[u8], from: usize, want: usize) -> bool
 }
 
 // A read that is done: its field into the log, its bytes over the buffer.
+#[inline(always)]
 fn take(address: u8, reg: u8, buf: &mut [u8], bus: &mut Bus)
     requires buf_len_bound { length buf.old ≤ 256 }
     requires heard { Heard (length buf.old) (drop bus.old.at.tape bus.old.tape.now)
@@ -38,6 +40,7 @@ fn take(address: u8, reg: u8, buf: &mut [u8], bus: &mut Bus)
 }
 
 // A write that is done: its field into the log.
+#[inline(always)]
 fn put(address: u8, frame: &[u8], bus: &mut Bus)
     requires heard { Heard 0 (drop bus.old.at.tape bus.old.tape.now)
         (outcome (write address frame.now) (held bus.old)) (whole 0) }
@@ -51,6 +54,7 @@ fn put(address: u8, frame: &[u8], bus: &mut Bus)
 }
 
 // A read, where it can be done.
+#[inline(always)]
 pub(crate) fn got(address: u8, reg: u8, buf: &mut [u8], bus: &mut Bus) -> bool
     requires { length buf.old ≤ 256 }
     ensures { leaves bus (GotBy (read address reg (length buf.old)) buf.old result buf.new) }
@@ -64,6 +68,7 @@ pub(crate) fn got(address: u8, reg: u8, buf: &mut [u8], bus: &mut Bus) -> bool
 }
 
 // A write, where it can be done.
+#[inline(always)]
 pub(crate) fn sent(address: u8, frame: &[u8], bus: &mut Bus) -> bool
     ensures { leaves bus (SentBy (write address frame.now) result) }
 {
@@ -76,6 +81,7 @@ pub(crate) fn sent(address: u8, frame: &[u8], bus: &mut Bus) -> bool
 }
 
 // A write, and after it a read of what was written, where both can be done.
+#[inline(always)]
 pub(crate) fn echoed(address: u8, reg: u8, frame: &[u8], back: &mut [u8], bus: &mut Bus) -> bool
     requires { length back.old ≤ 256 }
     ensures { leaves bus (EchoedBy (write address frame.now) (read address reg (length back.old)) back.old result back.new) }
