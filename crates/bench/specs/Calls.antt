@@ -12,6 +12,10 @@ use Rattle.bus.specs.declared.Cursor.{Cursor}
 use Rattle.bus.specs.declared.link.Link.{Link}
 use Rattle.bq769x0.specs.Record.{of_parts}
 use Rattle.bq769x0.specs.declared.BQ769x0.{BQ769x0}
+use Rattle.units.specs.declared.flags.Stat.{Stat}
+use Rattle.laws.specs.Choice.{when◌then◌else◌}
+use Rattle.commands.specs.declared.control.TemperatureSource.{TemperatureSource}
+use Rattle.commands.specs.declared.control.TemperatureSource.TheVariants as S
 use Rattle.measuring.specs.declared.degrees.Temperature.{Temperature}
 use Rattle.measuring.specs.declared.degrees.Temperature.TheVariants as T
 
@@ -36,6 +40,16 @@ itself n = n
 abbrev pub sensed : Temperature → ℕ
 sensed (T.InternalDie t) = as_u32 t.0
 sensed (T.ExternalThermistor t) = 4_294_967_296 + as_u32 t.0
+
+abbrev pub bits_of : Stat → ℕ
+bits_of stat = stat.bits
+
+abbrev pub bit_of : Bool → ℕ
+bit_of b = when b then 1 else 0
+
+abbrev pub code_of : TemperatureSource → ℕ
+code_of S.InternalDie = 0
+code_of S.ExternalThermistor = 1
 
 -- ---- what C is told of an answer: its number, 0 where accepted, and in out the positions and its value, or 0
 abbrev pub out_of : Cursor → ℕ → List ℕ

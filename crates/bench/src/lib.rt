@@ -1,23 +1,12 @@
-// Four calls for the bench's C, each on a tape and a log that nothing is used of: the number, 0 where accepted,
-// and in out how far tape and log are then used, and the answer's value as a number.
+// What the calls for the bench's C have in common: the record of the numbers that C gives, and what C is told of an answer.
 #![tactic(auto)]
 
-ghost use Rattle.std.specs.Prelude.{◌≡◌, []};
-ghost use Rattle.bus.specs.Transfers.{start};
-ghost use Rattle.bus.specs.Programs.{on_tape};
-ghost use Rattle.bus.specs.Lent.{lent_bus};
-ghost use Rattle.bus.specs.Raw.{read_raw, write_raw};
-ghost use Rattle.measuring.specs.Pack.{voltage};
-ghost use Rattle.measuring.specs.Temperature.{temperature};
-ghost use Rattle.numbers.specs.Numbers.{as_u32};
-ghost use Rattle.bench.specs.Calls.{link_by, record_by, nothing, sensed};
-ghost use Rattle.bench.specs.Calls.{given, as_read, as_told};
+ghost use Rattle.std.specs.Prelude.{◌≡◌};
+ghost use Rattle.bench.specs.Calls.{record_by};
 
 use adc::transfer::AdcTransferFunction;
 use bq769x0::BQ769x0;
-use bus::Cursor;
 use bus::link::Link;
-use measuring::{pack, temperature};
 use units::MicroOhms;
 
 pub mod told;
@@ -44,89 +33,4 @@ pub fn record_by(
         offset: numbers::as_i8(b51),
     };
     BQ769x0::of_parts(link, cell_count, adc, MicroOhms(shunt), shunt != 0)
-}
-
-pub fn bench_read_raw(
-    x: u8,
-    address: u8,
-    check: bool,
-    reg: u8,
-    data: &mut [u8],
-    tape: &[u8],
-    log: &mut [u8],
-    out: &mut [usize; 3],
-) -> u8
-    ensures { given result out.new log.new «data».new
-        ≡ as_read (on_tape (read_raw (link_by x address check) reg «data».old) (lent_bus tape log start)) }
-{
-    let link = Link { address, check, x };
-    let read = raw::read_raw(link, reg, data, tape, log, Cursor { tape: 0, log: 0 });
-    let answer = read.answer;
-    let at = read.at;
-    told::done(answer, at, out)
-}
-
-pub fn bench_write_raw(
-    x: u8,
-    address: u8,
-    check: bool,
-    reg: u8,
-    data: &[u8],
-    tape: &[u8],
-    log: &mut [u8],
-    out: &mut [usize; 3],
-) -> u8
-    ensures { given result out.new log.new []
-        ≡ as_told nothing (on_tape (write_raw (link_by x address check) reg «data».now) (lent_bus tape log start)) }
-{
-    let link = Link { address, check, x };
-    let made = raw::write_raw(link, reg, data, tape, log, Cursor { tape: 0, log: 0 });
-    let answer = made.answer;
-    let at = made.at;
-    told::done(answer, at, out)
-}
-
-pub fn bench_voltage(
-    x: u8,
-    cell_count: u8,
-    address: u8,
-    check: bool,
-    gain: u16,
-    b51: u8,
-    shunt: u32,
-    tape: &[u8],
-    log: &mut [u8],
-    out: &mut [usize; 3],
-) -> u8
-    ensures { given result out.new log.new []
-        ≡ as_told as_u32 (on_tape (voltage (record_by x cell_count address check gain b51 shunt)) (lent_bus tape log start)) }
-{
-    let device = record_by(x, cell_count, address, check, gain, b51, shunt);
-    let read = pack::voltage(device, tape, log, Cursor { tape: 0, log: 0 });
-    let answer = read.answer;
-    let at = read.at;
-    told::volts(answer, at, out)
-}
-
-pub fn bench_temperature(
-    x: u8,
-    cell_count: u8,
-    address: u8,
-    check: bool,
-    gain: u16,
-    b51: u8,
-    shunt: u32,
-    tape: &[u8],
-    log: &mut [u8],
-    out: &mut [usize; 3],
-) -> u8
-    ensures { given result out.new log.new []
-        ≡ as_told sensed (on_tape (temperature (record_by x cell_count address check gain b51 shunt))
-        (lent_bus tape log start)) }
-{
-    let device = record_by(x, cell_count, address, check, gain, b51, shunt);
-    let read = temperature::temperature(device, tape, log, Cursor { tape: 0, log: 0 });
-    let answer = read.answer;
-    let at = read.at;
-    told::sensed(answer, at, out)
 }

@@ -1,110 +1,101 @@
 // What C is told of an answer: the number, 0 where accepted, and in out the positions and the answer's value as a number, 0 where refused.
-ghost use Rattle.std.specs.Prelude.{◌≡◌};
-ghost use Rattle.adc.specs.Conversion.{as_current};
+ghost use Rattle.std.specs.Prelude.{◌≡◌, ℕ};
 ghost use Rattle.numbers.specs.Numbers.{as_u32};
-ghost use Rattle.bus.specs.Raw.{as_raw};
-ghost use Rattle.measuring.specs.Pack.{as_voltage};
-ghost use Rattle.measuring.specs.Temperature.{as_temperature};
-ghost use Rattle.bench.specs.Calls.{out_of, told_by, told, value_of, nothing, sensed};
+ghost use Rattle.refusals.specs.Refusal.{as_answer};
+ghost use Rattle.bench.specs.Calls.{told_by, told, nothing, itself, sensed, bits_of, bit_of, code_of};
 
-use adc::counter::CurrentAnswer;
 use bus::Cursor;
-use bus::link::RawAnswer;
+use commands::control::TemperatureSource;
 use measuring::degrees::Temperature;
-use measuring::pack::VoltageAnswer;
-use measuring::temperature::TemperatureAnswer;
+use refusals::Error;
+use units::flags::Stat;
 use units::{MilliAmperes, MilliVolts};
 
-pub fn put(out: &mut [usize; 3], at: Cursor, value: usize)
-    ensures { out.new ≡ out_of at value }
+// What a call answers, as a number for C.
+pub trait InNumber: Copy {
+    ghost in_number: { Self → ℕ };
+
+    fn in_number(self) -> usize
+        ensures { result ≡ in_number self };
+}
+
+pub fn tell<T: InNumber>(answer: Result<T, Error>, at: Cursor, out: &mut [usize; 3]) -> u8
+    ensures { told_by result out.new ≡ told T.in_number at (as_answer (λ value. value) answer) }
 {
+    let (number, value) = match answer {
+        Ok(value) => (0, value.in_number()),
+        Err(e) => (e.number(), 0),
+    };
     *out = [at.tape, at.log, value];
+    number
 }
 
-pub fn done(answer: RawAnswer, at: Cursor, out: &mut [usize; 3]) -> u8
-    ensures { told_by result out.new ≡ told nothing at (as_raw answer) }
-{
-    put(out, at, 0);
-    match answer {
-        RawAnswer::Done => 0,
-        RawAnswer::Refused(e) => e.number(),
+impl InNumber for () {
+    ghost in_number = { nothing };
+
+    fn in_number(self) -> usize {
+        0
     }
 }
 
-pub fn flow(answer: CurrentAnswer, at: Cursor, out: &mut [usize; 3]) -> u8
-    ensures { told_by result out.new ≡ told as_u32 at (as_current answer) }
-{
-    put(out, at, flow_of(answer));
-    match answer {
-        CurrentAnswer::Flows(_) => 0,
-        CurrentAnswer::Refused(e) => e.number(),
+impl InNumber for u8 {
+    ghost in_number = { itself };
+
+    fn in_number(self) -> usize {
+        self as usize
     }
 }
 
-fn flow_of(answer: CurrentAnswer) -> usize
-    ensures { result ≡ value_of as_u32 (as_current answer) }
-{
-    match answer {
-        CurrentAnswer::Flows(current) => milliamperes(current),
-        CurrentAnswer::Refused(_) => 0,
+impl InNumber for bool {
+    ghost in_number = { bit_of };
+
+    fn in_number(self) -> usize {
+        self as usize
     }
 }
 
-fn milliamperes(current: MilliAmperes) -> usize
-    ensures { result ≡ as_u32 current.0 }
-{
-    numbers::as_u32(current.0) as usize
-}
+impl InNumber for MilliAmperes {
+    ghost in_number = { λ current. as_u32 current.0 };
 
-pub fn volts(answer: VoltageAnswer, at: Cursor, out: &mut [usize; 3]) -> u8
-    ensures { told_by result out.new ≡ told as_u32 at (as_voltage answer) }
-{
-    put(out, at, volts_of(answer));
-    match answer {
-        VoltageAnswer::Volts(_) => 0,
-        VoltageAnswer::Refused(e) => e.number(),
+    fn in_number(self) -> usize {
+        numbers::as_u32(self.0) as usize
     }
 }
 
-fn volts_of(answer: VoltageAnswer) -> usize
-    ensures { result ≡ value_of as_u32 (as_voltage answer) }
-{
-    match answer {
-        VoltageAnswer::Volts(voltage) => millivolts(voltage),
-        VoltageAnswer::Refused(_) => 0,
+impl InNumber for MilliVolts {
+    ghost in_number = { λ voltage. as_u32 voltage.0 };
+
+    fn in_number(self) -> usize {
+        numbers::as_u32(self.0) as usize
     }
 }
 
-fn millivolts(voltage: MilliVolts) -> usize
-    ensures { result ≡ as_u32 voltage.0 }
-{
-    numbers::as_u32(voltage.0) as usize
-}
+impl InNumber for Temperature {
+    ghost in_number = { sensed };
 
-pub fn sensed(answer: TemperatureAnswer, at: Cursor, out: &mut [usize; 3]) -> u8
-    ensures { told_by result out.new ≡ told sensed at (as_temperature answer) }
-{
-    put(out, at, sensed_of(answer));
-    match answer {
-        TemperatureAnswer::Degrees(_) => 0,
-        TemperatureAnswer::Refused(e) => e.number(),
+    fn in_number(self) -> usize {
+        match self {
+            Temperature::InternalDie(t) => numbers::as_u32(t.0) as usize,
+            Temperature::ExternalThermistor(t) => 4_294_967_296 + numbers::as_u32(t.0) as usize,
+        }
     }
 }
 
-fn sensed_of(answer: TemperatureAnswer) -> usize
-    ensures { result ≡ value_of sensed (as_temperature answer) }
-{
-    match answer {
-        TemperatureAnswer::Degrees(read) => degrees(read),
-        TemperatureAnswer::Refused(_) => 0,
+impl InNumber for Stat {
+    ghost in_number = { bits_of };
+
+    fn in_number(self) -> usize {
+        self.bits as usize
     }
 }
 
-fn degrees(read: Temperature) -> usize
-    ensures { result ≡ sensed read }
-{
-    match read {
-        Temperature::InternalDie(t) => numbers::as_u32(t.0) as usize,
-        Temperature::ExternalThermistor(t) => 4_294_967_296 + numbers::as_u32(t.0) as usize,
+impl InNumber for TemperatureSource {
+    ghost in_number = { code_of };
+
+    fn in_number(self) -> usize {
+        match self {
+            TemperatureSource::InternalDie => 0,
+            TemperatureSource::ExternalThermistor => 1,
+        }
     }
 }

@@ -1,4 +1,5 @@
-// For the bench's C: what crate bench promises.
+// Four calls for the bench's C, each on a tape and a log that nothing is used of: the number, 0 where accepted, and in out how far tape and log are
+// then used, and the answer's value as a number.
 #![tactic(auto)]
 
 ghost use Rattle.std.specs.Prelude.{◌≡◌, []};
@@ -11,6 +12,11 @@ ghost use Rattle.measuring.specs.Temperature.{temperature};
 ghost use Rattle.numbers.specs.Numbers.{as_u32};
 ghost use Rattle.bench.specs.Calls.{link_by, record_by, nothing, sensed};
 ghost use Rattle.bench.specs.Calls.{given, as_read, as_told};
+
+use bench::told;
+use bus::Bus;
+use bus::link::Link;
+use measuring::{pack, temperature};
 
 #[unsafe(no_mangle)]
 pub extern "C" fn bench_read_raw(
@@ -26,7 +32,10 @@ pub extern "C" fn bench_read_raw(
     ensures { given result out.new log.new «data».new
         ≡ as_read (on_tape (read_raw (link_by x address check) reg «data».old) (lent_bus tape log start)) }
 {
-    bench::bench_read_raw(x, address, check, reg, data, tape, log, out)
+    let link = Link { address, check, x };
+    let mut bus = Bus::new(tape, log);
+    let answer = raw::read_raw(link, reg, data, &mut bus);
+    told::tell(answer, bus.at, out)
 }
 
 #[unsafe(no_mangle)]
@@ -43,7 +52,10 @@ pub extern "C" fn bench_write_raw(
     ensures { given result out.new log.new []
         ≡ as_told nothing (on_tape (write_raw (link_by x address check) reg «data».now) (lent_bus tape log start)) }
 {
-    bench::bench_write_raw(x, address, check, reg, data, tape, log, out)
+    let link = Link { address, check, x };
+    let mut bus = Bus::new(tape, log);
+    let answer = raw::write_raw(link, reg, data, &mut bus);
+    told::tell(answer, bus.at, out)
 }
 
 #[unsafe(no_mangle)]
@@ -62,9 +74,10 @@ pub extern "C" fn bench_voltage(
     ensures { given result out.new log.new []
         ≡ as_told as_u32 (on_tape (voltage (record_by x cell_count address check gain b51 shunt)) (lent_bus tape log start)) }
 {
-    bench::bench_voltage(
-        x, cell_count, address, check, gain, b51, shunt, tape, log, out,
-    )
+    let device = bench::record_by(x, cell_count, address, check, gain, b51, shunt);
+    let mut bus = Bus::new(tape, log);
+    let answer = pack::voltage(&device, &mut bus);
+    told::tell(answer, bus.at, out)
 }
 
 #[unsafe(no_mangle)]
@@ -84,7 +97,8 @@ pub extern "C" fn bench_temperature(
         ≡ as_told sensed (on_tape (temperature (record_by x cell_count address check gain b51 shunt))
         (lent_bus tape log start)) }
 {
-    bench::bench_temperature(
-        x, cell_count, address, check, gain, b51, shunt, tape, log, out,
-    )
+    let device = bench::record_by(x, cell_count, address, check, gain, b51, shunt);
+    let mut bus = Bus::new(tape, log);
+    let answer = temperature::temperature(&device, &mut bus);
+    told::tell(answer, bus.at, out)
 }

@@ -1,15 +1,13 @@
--- What the bench's C gives a command in numbers, and is told of an answer in numbers.
+-- What the bench's C gives a command in numbers.
 -- Assumes nothing.
 use Rattle.std.specs.Prelude.{ℕ, Bool, eqb}
 use Rattle.laws.specs.Choice.{when◌then◌else◌}
-use Rattle.units.specs.declared.flags.Stat.{Stat}
 use Rattle.units.specs.declared.flags.SysStat.{SysStat}
 use Rattle.commands.specs.declared.control.TemperatureSource.{TemperatureSource}
 use Rattle.commands.specs.declared.control.TemperatureSource.TheVariants as T
 use Rattle.commands.specs.declared.counter.CoulombCounterMode.{CoulombCounterMode}
 use Rattle.commands.specs.declared.counter.CoulombCounterMode.TheVariants as M
 
--- ---- given
 abbrev pub flags_by : ℕ → SysStat
 flags_by bits = record { bits = bits }
 
@@ -19,14 +17,3 @@ source_by thermistor = when thermistor then T.ExternalThermistor else T.Internal
 -- 0 off, 1 once, any other always
 abbrev pub mode_by : ℕ → CoulombCounterMode
 mode_by code = when eqb code 0 then M.Disabled else when eqb code 1 then M.OneShot else M.Continuous
-
--- ---- told
-abbrev pub bits_of : Stat → ℕ
-bits_of stat = stat.bits
-
-abbrev pub bit_of : Bool → ℕ
-bit_of b = when b then 1 else 0
-
-abbrev pub code_of : TemperatureSource → ℕ
-code_of T.InternalDie = 0
-code_of T.ExternalThermistor = 1

@@ -8,17 +8,15 @@ ghost use Rattle.bus.specs.Lent.{lent_bus};
 ghost use Rattle.commands.specs.Commands.{enable_balancing, balancing_state, sys_stat, sys_stat_reset};
 ghost use Rattle.commands.specs.Commands.{discharge, charge, is_charge_enabled, ship_enter};
 ghost use Rattle.commands.specs.Commands.{enable_adc, set_temperature_source, temperature_source, coulomb_counter_mode};
-ghost use Rattle.bench.specs.Calls.{record_by, nothing, itself, given, as_told};
-ghost use Rattle.bench_commands.specs.Codes.{flags_by, source_by, mode_by, bits_of, bit_of, code_of};
+ghost use Rattle.bench.specs.Calls.{record_by, nothing, itself, bits_of, bit_of, code_of, given, as_told};
+ghost use Rattle.bench_commands.specs.Codes.{flags_by, source_by, mode_by};
 
 use bench::told;
-use bus::Cursor;
+use bus::Bus;
 use commands::control::TemperatureSource;
 use commands::counter::CoulombCounterMode;
 use commands::{balancing, control, counter, ship, status, switches};
 use units::flags::SysStat;
-
-mod answers;
 
 fn source_by(thermistor: bool) -> TemperatureSource
     ensures { result ≡ source_by thermistor }
@@ -33,12 +31,10 @@ fn source_by(thermistor: bool) -> TemperatureSource
 fn mode_by(code: u8) -> CoulombCounterMode
     ensures { result ≡ mode_by code }
 {
-    if code == 0 {
-        CoulombCounterMode::Disabled
-    } else if code == 1 {
-        CoulombCounterMode::OneShot
-    } else {
-        CoulombCounterMode::Continuous
+    match code {
+        0 => CoulombCounterMode::Disabled,
+        1 => CoulombCounterMode::OneShot,
+        _ => CoulombCounterMode::Continuous,
     }
 }
 
@@ -61,10 +57,9 @@ pub extern "C" fn bench_enable_balancing(
         (lent_bus tape log start)) }
 {
     let device = bench::record_by(x, cell_count, address, check, gain, b51, shunt);
-    let made = balancing::enable_balancing(device, cells, tape, log, Cursor { tape: 0, log: 0 });
-    let answer = made.answer;
-    let at = made.at;
-    told::done(answer, at, out)
+    let mut bus = Bus::new(tape, log);
+    let answer = balancing::enable_balancing(&device, cells, &mut bus);
+    told::tell(answer, bus.at, out)
 }
 
 #[unsafe(no_mangle)]
@@ -85,10 +80,9 @@ pub extern "C" fn bench_balancing_state(
         (lent_bus tape log start)) }
 {
     let device = bench::record_by(x, cell_count, address, check, gain, b51, shunt);
-    let read = balancing::balancing_state(device, tape, log, Cursor { tape: 0, log: 0 });
-    let answer = read.answer;
-    let at = read.at;
-    answers::byte(answer, at, out)
+    let mut bus = Bus::new(tape, log);
+    let answer = balancing::balancing_state(&device, &mut bus);
+    told::tell(answer, bus.at, out)
 }
 
 #[unsafe(no_mangle)]
@@ -109,10 +103,9 @@ pub extern "C" fn bench_sys_stat(
         (lent_bus tape log start)) }
 {
     let device = bench::record_by(x, cell_count, address, check, gain, b51, shunt);
-    let read = status::sys_stat(device, tape, log, Cursor { tape: 0, log: 0 });
-    let answer = read.answer;
-    let at = read.at;
-    answers::stat(answer, at, out)
+    let mut bus = Bus::new(tape, log);
+    let answer = status::sys_stat(&device, &mut bus);
+    told::tell(answer, bus.at, out)
 }
 
 #[unsafe(no_mangle)]
@@ -135,10 +128,9 @@ pub extern "C" fn bench_sys_stat_reset(
 {
     let device = bench::record_by(x, cell_count, address, check, gain, b51, shunt);
     let flags = SysStat { bits: flags };
-    let made = status::sys_stat_reset(device, flags, tape, log, Cursor { tape: 0, log: 0 });
-    let answer = made.answer;
-    let at = made.at;
-    told::done(answer, at, out)
+    let mut bus = Bus::new(tape, log);
+    let answer = status::sys_stat_reset(&device, flags, &mut bus);
+    told::tell(answer, bus.at, out)
 }
 
 #[unsafe(no_mangle)]
@@ -160,10 +152,9 @@ pub extern "C" fn bench_discharge(
         (lent_bus tape log start)) }
 {
     let device = bench::record_by(x, cell_count, address, check, gain, b51, shunt);
-    let made = switches::discharge(device, enable, tape, log, Cursor { tape: 0, log: 0 });
-    let answer = made.answer;
-    let at = made.at;
-    told::done(answer, at, out)
+    let mut bus = Bus::new(tape, log);
+    let answer = switches::discharge(&device, enable, &mut bus);
+    told::tell(answer, bus.at, out)
 }
 
 #[unsafe(no_mangle)]
@@ -185,10 +176,9 @@ pub extern "C" fn bench_charge(
         (lent_bus tape log start)) }
 {
     let device = bench::record_by(x, cell_count, address, check, gain, b51, shunt);
-    let made = switches::charge(device, enable, tape, log, Cursor { tape: 0, log: 0 });
-    let answer = made.answer;
-    let at = made.at;
-    told::done(answer, at, out)
+    let mut bus = Bus::new(tape, log);
+    let answer = switches::charge(&device, enable, &mut bus);
+    told::tell(answer, bus.at, out)
 }
 
 #[unsafe(no_mangle)]
@@ -209,10 +199,9 @@ pub extern "C" fn bench_is_charge_enabled(
         (lent_bus tape log start)) }
 {
     let device = bench::record_by(x, cell_count, address, check, gain, b51, shunt);
-    let read = switches::is_charge_enabled(device, tape, log, Cursor { tape: 0, log: 0 });
-    let answer = read.answer;
-    let at = read.at;
-    answers::flag(answer, at, out)
+    let mut bus = Bus::new(tape, log);
+    let answer = switches::is_charge_enabled(&device, &mut bus);
+    told::tell(answer, bus.at, out)
 }
 
 #[unsafe(no_mangle)]
@@ -233,10 +222,9 @@ pub extern "C" fn bench_ship_enter(
         (lent_bus tape log start)) }
 {
     let device = bench::record_by(x, cell_count, address, check, gain, b51, shunt);
-    let made = ship::ship_enter(device, tape, log, Cursor { tape: 0, log: 0 });
-    let answer = made.answer;
-    let at = made.at;
-    told::done(answer, at, out)
+    let mut bus = Bus::new(tape, log);
+    let answer = ship::ship_enter(&device, &mut bus);
+    told::tell(answer, bus.at, out)
 }
 
 #[unsafe(no_mangle)]
@@ -258,10 +246,9 @@ pub extern "C" fn bench_enable_adc(
         (lent_bus tape log start)) }
 {
     let device = bench::record_by(x, cell_count, address, check, gain, b51, shunt);
-    let made = control::enable_adc(device, enable, tape, log, Cursor { tape: 0, log: 0 });
-    let answer = made.answer;
-    let at = made.at;
-    told::done(answer, at, out)
+    let mut bus = Bus::new(tape, log);
+    let answer = control::enable_adc(&device, enable, &mut bus);
+    told::tell(answer, bus.at, out)
 }
 
 #[unsafe(no_mangle)]
@@ -283,17 +270,9 @@ pub extern "C" fn bench_set_temperature_source(
         (lent_bus tape log start)) }
 {
     let device = bench::record_by(x, cell_count, address, check, gain, b51, shunt);
-    let source = source_by(thermistor);
-    let made = control::set_temperature_source(
-        device,
-        source,
-        tape,
-        log,
-        Cursor { tape: 0, log: 0 },
-    );
-    let answer = made.answer;
-    let at = made.at;
-    told::done(answer, at, out)
+    let mut bus = Bus::new(tape, log);
+    let answer = control::set_temperature_source(&device, source_by(thermistor), &mut bus);
+    told::tell(answer, bus.at, out)
 }
 
 #[unsafe(no_mangle)]
@@ -314,10 +293,9 @@ pub extern "C" fn bench_temperature_source(
         (lent_bus tape log start)) }
 {
     let device = bench::record_by(x, cell_count, address, check, gain, b51, shunt);
-    let read = control::temperature_source(device, tape, log, Cursor { tape: 0, log: 0 });
-    let answer = read.answer;
-    let at = read.at;
-    answers::source(answer, at, out)
+    let mut bus = Bus::new(tape, log);
+    let answer = control::temperature_source(&device, &mut bus);
+    told::tell(answer, bus.at, out)
 }
 
 #[unsafe(no_mangle)]
@@ -339,9 +317,7 @@ pub extern "C" fn bench_coulomb_counter_mode(
         (lent_bus tape log start)) }
 {
     let device = bench::record_by(x, cell_count, address, check, gain, b51, shunt);
-    let mode = mode_by(code);
-    let made = counter::coulomb_counter_mode(device, mode, tape, log, Cursor { tape: 0, log: 0 });
-    let answer = made.answer;
-    let at = made.at;
-    told::done(answer, at, out)
+    let mut bus = Bus::new(tape, log);
+    let answer = counter::coulomb_counter_mode(&device, mode_by(code), &mut bus);
+    told::tell(answer, bus.at, out)
 }

@@ -13,7 +13,7 @@ ghost use Rattle.bench.specs.Calls.{record_by, given, as_told};
 ghost use Rattle.bench_readings.specs.Listed.{as_cells};
 
 use bench::told;
-use bus::Cursor;
+use bus::Bus;
 use cells::crate_list;
 use measuring::pack;
 
@@ -35,11 +35,10 @@ pub extern "C" fn bench_cells(
         ≡ as_cells (on_tape (cell_voltages (record_by x cell_count address check gain b51 shunt) list.old)
         (lent_bus tape log start)) }
 {
-    let device = bench::record_by(x, cell_count, address, check, gain, b51, shunt);
-    let read = crate_list::cell_voltages(device, list, tape, log, Cursor { tape: 0, log: 0 });
-    let answer = read.answer;
-    let at = read.at;
-    told::done(answer, at, out)
+    let mut device = bench::record_by(x, cell_count, address, check, gain, b51, shunt);
+    let mut bus = Bus::new(tape, log);
+    let answer = crate_list::cell_voltages(&mut device, list, &mut bus);
+    told::tell(answer, bus.at, out)
 }
 
 #[unsafe(no_mangle)]
@@ -59,8 +58,7 @@ pub extern "C" fn bench_current(
         ≡ as_told as_u32 (on_tape (current (record_by x cell_count address check gain b51 shunt)) (lent_bus tape log start)) }
 {
     let device = bench::record_by(x, cell_count, address, check, gain, b51, shunt);
-    let read = pack::current(device, tape, log, Cursor { tape: 0, log: 0 });
-    let answer = read.answer;
-    let at = read.at;
-    told::flow(answer, at, out)
+    let mut bus = Bus::new(tape, log);
+    let answer = pack::current(&device, &mut bus);
+    told::tell(answer, bus.at, out)
 }

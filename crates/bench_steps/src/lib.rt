@@ -4,6 +4,7 @@
 ghost use Rattle.std.specs.Prelude.{◌≡◌, ◌++◌};
 ghost use Rattle.protection.specs.Steps.{scd_lower, scd_upper, ocd_lower, ocd_upper, step};
 
+use protection::Threshold;
 use protection::ocd::OCDThreshold;
 use protection::scd::SCDThreshold;
 

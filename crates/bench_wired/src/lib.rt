@@ -12,7 +12,7 @@ ghost use Rattle.bench_wired.specs.Both.{shown_by, as_shown};
 
 use bench::told;
 use bq769x0::{Readings, Spread};
-use bus::Cursor;
+use bus::Bus;
 use cells::wired;
 use units::MilliVolts;
 
@@ -35,11 +35,10 @@ pub extern "C" fn bench_wired(
         ≡ as_shown (on_tape (wired (record_by x cell_count address check gain b51 shunt)
         inputs.old list.old) (lent_bus tape log start)) }
 {
-    let device = bench::record_by(x, cell_count, address, check, gain, b51, shunt);
-    let read = wired::wired(device, inputs, list, tape, log, Cursor { tape: 0, log: 0 });
-    let answer = read.answer;
-    let at = read.at;
-    told::done(answer, at, out)
+    let mut device = bench::record_by(x, cell_count, address, check, gain, b51, shunt);
+    let mut bus = Bus::new(tape, log);
+    let answer = wired::wired(&mut device, inputs, list, &mut bus);
+    told::tell(answer, bus.at, out)
 }
 
 // Of a record that holds these three.
@@ -47,20 +46,16 @@ pub extern "C" fn bench_wired(
 pub extern "C" fn bench_spread(sum: i32, lowest: i32, highest: i32, out: &mut [i32; 3])
     ensures { out.new ≡ sum ∷ lowest ∷ highest ∷ [] }
 {
-    let spread = Spread {
-        sum: MilliVolts(sum),
-        lowest: MilliVolts(lowest),
-        highest: MilliVolts(highest),
-    };
-    let cells = [MilliVolts(0); 15];
-    let wired = [MilliVolts(0); 15];
-    let readings = Readings {
-        cells,
-        wired,
-        spread,
-    };
-    let device = bench::record_by(5, 5, 8, false, 365, 0, 1000);
-    let device = device.store_readings(readings);
+    let mut device = bench::record_by(5, 5, 8, false, 365, 0, 1000);
+    device.store_readings(Readings {
+        cells: [MilliVolts(0); 15],
+        wired: [MilliVolts(0); 15],
+        spread: Spread {
+            sum: MilliVolts(sum),
+            lowest: MilliVolts(lowest),
+            highest: MilliVolts(highest),
+        },
+    });
     let held = device.spread();
     *out = [held.sum.0, held.lowest.0, held.highest.0];
 }
