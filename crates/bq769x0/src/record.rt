@@ -1,5 +1,5 @@
 // The record: made by `new`, changed by the setters below, and sound or not.
-ghost use Rattle.std.specs.Prelude.{◌≡◌};
+ghost use Rattle.std.specs.Prelude.{◌≡◌, false};
 ghost use Rattle.bq769x0.specs.Record.{unread, of_parts, head_of, with_head, fresh, device_allowed, as_made, as_new, new_for};
 ghost use Rattle.bq769x0.specs.Record.{leaves, calibrated_right, marked_right, is_sound, with_calibration, with_shunt, with_readings};
 ghost use Rattle.bq769x0.specs.declared.Readings.{Readings};
@@ -57,27 +57,27 @@ impl BQ769x0 {
     ) -> BQ769x0
         ensures { result ≡ of_parts link cell_count adc shunt init_complete }
     {
-        BQ769x0 {
+        BQ769x0::of_head(Head {
             link,
             cell_count,
             adc,
             shunt,
             init_complete,
-            readings: Readings::unread(),
-        }
+        })
     }
 
     // A record of this head, of which nothing is read yet.
     pub fn of_head(head: Head) -> BQ769x0
         ensures { result ≡ with_head head unread }
     {
-        BQ769x0::of_parts(
-            head.link,
-            head.cell_count,
-            head.adc,
-            head.shunt,
-            head.init_complete,
-        )
+        BQ769x0 {
+            link: head.link,
+            cell_count: head.cell_count,
+            adc: head.adc,
+            shunt: head.shunt,
+            init_complete: head.init_complete,
+            readings: Readings::unread(),
+        }
     }
 
     pub fn head(&self) -> Head
@@ -180,9 +180,16 @@ impl Head {
             answer,
             head: match answer {
                 Ok(()) => fresh(x, dev_address, cell_count, check),
-                Err(_) => fresh(0, 0, 0, false),
+                Err(_) => Head::none(),
             },
         }
+    }
+
+    // No device: one of size 0, on which every call is refused.
+    pub fn none() -> Head
+        ensures { with_head result unread ≡ fresh 0 0 0 false }
+    {
+        fresh(0, 0, 0, false)
     }
 
     pub fn store_calibration(&mut self, adc: AdcTransferFunction)

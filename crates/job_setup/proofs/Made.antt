@@ -1,18 +1,14 @@
 -- What `new` leaves is known by its answer: where it refuses a device of size 0; and it is sound just where it does not.
 -- Assumes nothing.
 use mathlib.Core.Path.{◌≡◌, refl}
-use mathlib.Core.Bool.{Bool, true, false}
+use mathlib.Core.Bool.{Bool, true}
 use Prim.Native.Nat.{ℕ}
-use Rattle.refusals.specs.Refusal.{Answer, value, refused, nine}
+use Rattle.refusals.specs.Refusal.{Answer, value, refused}
 use Rattle.bus.specs.Raw.{Done}
-use Rattle.bq769x0.specs.Record.{leaving, device_allowed, accepts, is_sound, leaves, fresh, made_by, new_for}
+use Rattle.bq769x0.specs.Record.{device_allowed, accepts, is_sound, leaves, fresh, made_by, new_for}
 use Rattle.bq769x0.specs.declared.BQ769x0.{BQ769x0}
 use Rattle.bq769x0.proofs.Keeps.{new_sound}
 use Rattle.job_setup.specs.JobInit.{no_device}
-
-pub none_made : new_for 0 0 0 false ≡ leaving no_device nine
-unfolding new_for device_allowed
-none_made = refl
 
 abbrev pub left_by : Answer Done → BQ769x0 → BQ769x0
 left_by (value done) d = d
