@@ -10,13 +10,12 @@ use lib.ListN.{length, take, drop}
 use lib.Seq.{take-nil, take_at, drop_at, length-take-le}
 use Rattle.frames.proofs.Put.{take_put}
 use Rattle.bus.specs.Transfers.{Transfer, Bus, tape_field, bus_of, moved}
-use Rattle.bus.specs.Programs.{Prog, ret, ask, Ran, ran, on_tape}
-use Rattle.bus.specs.Lent.{LentBus, held, does}
+use Rattle.bus.specs.Programs.{Prog, ret, ask, Ran, ran, ends, on_tape}
 use Rattle.bus.specs.Decoders.{transfers_in}
 use Rattle.bus.proofs.Programs.{same_tape}
 use Rattle.chip.specs.Devices.{Reached, made_on, log_of, tape_of}
 use Rattle.chip.specs.OnChip.{Wired, on_wire, on_chip, fed}
-use Rattle.runs.specs.Calls.{Call, lent_call, Run, transfers, answers_to, added, logged_transfers, used, left_by, ByItsLog, Alike}
+use Rattle.runs.specs.Calls.{Call, Run, transfers, answers_to, added, logged_transfers, used, left_by, ByItsLog, Alike}
 use Rattle.chip.proofs.Adequate.{adequate}
 use Rattle.chip.proofs.Fed.{transfers_of, log_decodes, fed_last}
 use Rattle.runs.proofs.Fine.{Fine}
@@ -36,12 +35,12 @@ unfolding answers_to made_on tape_of
 answers_made (ret a) w = refl
 answers_made (ask t k) w = ap (◌++◌ (tape_field (on_wire w t).answer)) (answers_made (k (on_wire w t).answer) (on_wire w t).device)
 
--- ---- a function on a lent bus that does its program keeps a call's promise: its tape stays as it was
-pub promised : {A : Type 0} (p : Prog A) (bus : LentBus) (answer : A) → does p bus answer
-    → let call = lent_call bus answer in ran call.gave call.tape call.log' call.at' ≡ on_tape p (bus_of call.tape call.log call.at)
-promised {A} p bus answer h =
-    let tape = ap (λ (r : Ran A). r.bus.tape) h.0 ∙ same_tape p (held bus.entry.now) in
-    ap (λ (tape : List ℕ). ran answer tape bus.exit.now.log.now bus.exit.now.at) (sym tape) ∙ h.0
+-- ---- a function on a lent bus that does its program keeps the promise of its call: the tape stays as it was
+pub promised : {A : Type 0} (p : Prog A) (b b' : Bus) (answer : A) → ends answer b' ≡ on_tape p b
+    → ran answer b.tape b'.log b'.at ≡ on_tape p b
+promised {A} p b b' answer h =
+    let tape = ap (λ (r : Ran A). r.bus.tape) h ∙ same_tape p b in
+    ap (λ (t : List ℕ). ran answer t b'.log b'.at) (sym tape) ∙ h
 
 -- ---- one call
 module _ {A : Type 0} {Off : A → Type 0} {n : ℕ} {p : Prog A} (fine : Fine Off n p) {w : Wired} {call : Call A} (run : Run p n w call) where

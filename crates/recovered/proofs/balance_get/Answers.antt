@@ -5,4 +5,4 @@ use Rattle.model.proofs.ReadBack.{reads_back}
 use Rattle.recovered.proofs.balance_get.Goals as goal
 
 pub returns : goal.returns
-returns c = (c.balance_get.ensures, reads_back _ (promised _ _ _ c.balance_get.ensures))
+returns c = (c.balance_get.ensures, reads_back _ (promised _ _ _ _ c.balance_get.ensures.0))

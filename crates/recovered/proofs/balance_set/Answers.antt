@@ -7,4 +7,4 @@ use Rattle.recovered.proofs.balance_set.Goals as goal
 
 pub returns : goal.returns
 returns c =
-    (c.balance_set.ensures, demand_3 _ _ _ (omega arith) (promised _ _ _ c.balance_set.ensures))
+    (c.balance_set.ensures, demand_3 _ _ _ (omega arith) (promised _ _ _ _ c.balance_set.ensures.0))

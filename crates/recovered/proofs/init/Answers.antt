@@ -5,4 +5,4 @@ use Rattle.recovery.proofs.Demand3.{demand_3}
 use Rattle.recovered.proofs.init.Goals as goal
 
 pub returns : goal.returns
-returns c = (c.init.ensures, demand_3 (promised _ _ _ c.init.ensures))
+returns c = (c.init.ensures, demand_3 (promised _ _ _ _ c.init.ensures.0))
