@@ -1,7 +1,8 @@
 -- A program step by step, as a prover rewrites it: a call and what is left after its answer, an answer, a record that is sound or not, the bytes
 -- of a read. A function that makes its program's calls in turn is proved by these alone.
 -- Assumes nothing.
-use mathlib.Core.Path.{◌≡◌, refl}
+use mathlib.Core.Path.{◌≡◌, refl, sym}
+use mathlib.Core.Bool.{Bool, true, false, not}
 use Prim.Native.Nat.{ℕ}
 use lib.ListN.{replicate}
 use Rattle.refusals.specs.Refusal.{Refusal, Answer, value, refused, answering}
@@ -9,7 +10,11 @@ use Rattle.bus.specs.Transfers.{Bus}
 use Rattle.bus.specs.Programs.{Prog, ret, ends, on_tape, proceed, ◌or_leave◌, ◌>>=◌}
 use Rattle.bus.specs.Raw.{read_raw, read_bytes}
 use Rattle.bus.specs.declared.link.Link.{Link}
-use Rattle.bus.proofs.Programs.{on_tape_bind}
+use Rattle.bus.proofs.Programs.{on_tape_bind, pure_off}
+use Rattle.laws.specs.Choice.{when◌then◌else◌}
+use Rattle.bq769x0.specs.Record.{is_sound}
+use Rattle.bq769x0.specs.Registers.{soundly}
+use Rattle.bq769x0.specs.declared.BQ769x0.{BQ769x0}
 use Rattle.bq769x0.proofs.Soundly.{sound_on, sound_off}
 
 pub step : {A B : Type 0} (p : Prog (Answer A)) (leave : Refusal → B) (f : A → Prog B) (b : Bus)
@@ -37,4 +42,16 @@ pub bytes : (s : Link) (reg n : ℕ) (b : Bus)
 unfolding read_bytes on_tape
 bytes s reg n b = on_tape_bind (read_raw s reg (replicate n 0)) (λ r. ret (answering r.answer r.bytes)) b
 
-pub ruleset steps = (step, on, off, at_end, sound_on, sound_off, bytes)
+-- the test of the record stands in a call's first step, or ahead of the whole call
+pub tested_first : {A B : Type 0} (d : BQ769x0) (r : Refusal) (p : Prog (Answer A)) (f : A → Prog (Answer B)) (b : Bus)
+    → on_tape (soundly d (refused r) ((p or_leave refused) >>= f)) b ≡ on_tape ((soundly d (refused r) p or_leave refused) >>= f) b
+unfolding soundly on_tape
+tested_first d r p f b = by_test (is_sound d)
+  where
+    by_test : (sound : Bool)
+        → on_tape (when not sound then ret (refused r) else ((p or_leave refused) >>= f)) b
+        ≡ on_tape (((when not sound then ret (refused r) else p) or_leave refused) >>= f) b
+    by_test true = refl
+    by_test false = sym (pure_off refused f b (refused r) r refl)
+
+pub ruleset steps = (step, on, off, at_end, sound_on, sound_off, tested_first, bytes)

@@ -24,10 +24,7 @@ pub fn enable_balancing(device: &BQ769x0, cells: u8, bus: &mut Bus) -> Result<()
 pub fn balancing_state(device: &BQ769x0, bus: &mut Bus) -> Result<u8, Error>
     ensures { does (balancing_state device.now) bus (as_byte result) }
 {
-    if !device.is_sound() {
-        return Err(Error::BadDevice);
-    }
-    register::read_register(device.link, 0x01, bus)
+    register::read_register(device, 0x01, bus)
 }
 
 // 9, then 22, 23, 24 by the rules of the set, and one write of as many registers as the device has.

@@ -5,7 +5,7 @@ ghost use Rattle.std.specs.Prelude.{◌≡◌};
 ghost use Rattle.bus.specs.Lent.{does};
 ghost use Rattle.bus.specs.Raw.{as_raw};
 ghost use Rattle.commands.specs.Answers.{as_source};
-ghost use Rattle.commands.specs.Commands.{enable_adc, source_bits, set_temperature_source};
+ghost use Rattle.commands.specs.Commands.{enable_adc, set_temperature_source};
 ghost use Rattle.commands.specs.Commands.{source_in, temperature_source};
 
 use crate::register;
@@ -13,20 +13,18 @@ use bq769x0::BQ769x0;
 use bus::Bus;
 use refusals::Error;
 
+// Each is its bits.
 #[derive(Clone, Copy)]
 pub enum TemperatureSource {
-    InternalDie,
-    ExternalThermistor,
+    InternalDie = 0,
+    ExternalThermistor = 0b0000_1000,
 }
 
 pub fn enable_adc(device: &BQ769x0, enable: bool, bus: &mut Bus) -> Result<(), Error>
     ensures { does (enable_adc device.now enable) bus (as_raw result) }
 {
-    if !device.is_sound() {
-        return Err(Error::BadDevice);
-    }
     let set = bits::placed(0b0001_0000, enable);
-    register::change_bits(device.link, 0x04, 0b0001_0000, set, bus)
+    register::change_bits(device, 0x04, 0b0001_0000, set, bus)
 }
 
 pub fn set_temperature_source(
@@ -36,28 +34,13 @@ pub fn set_temperature_source(
 ) -> Result<(), Error>
     ensures { does (set_temperature_source device.now source) bus (as_raw result) }
 {
-    if !device.is_sound() {
-        return Err(Error::BadDevice);
-    }
-    register::change_bits(device.link, 0x04, 0b0000_1000, source_bits(source), bus)
-}
-
-fn source_bits(source: TemperatureSource) -> u8
-    ensures { result ≡ source_bits source }
-{
-    match source {
-        TemperatureSource::InternalDie => 0,
-        TemperatureSource::ExternalThermistor => 0b0000_1000,
-    }
+    register::change_bits(device, 0x04, 0b0000_1000, source as u8, bus)
 }
 
 pub fn temperature_source(device: &BQ769x0, bus: &mut Bus) -> Result<TemperatureSource, Error>
     ensures { does (temperature_source device.now) bus (as_source result) }
 {
-    if !device.is_sound() {
-        return Err(Error::BadDevice);
-    }
-    let byte = register::read_register(device.link, 0x04, bus)?;
+    let byte = register::read_register(device, 0x04, bus)?;
     Ok(source_in(byte))
 }
 

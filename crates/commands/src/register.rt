@@ -1,34 +1,39 @@
-// One register, by the link: its byte read, and some of its bits changed.
+// One register of a record: its byte read, and some of its bits changed; 9 first where the record is not sound.
 #![tactic(auto, using(crate::proofs::Steps::steps), unfolding(crate::specs::Registers::read_register, crate::specs::Registers::writing, crate::specs::Registers::changing, bits::specs::Bits::putting))]
 
 ghost use Rattle.bus.specs.Lent.{does};
 ghost use Rattle.bus.specs.Raw.{as_raw};
-ghost use Rattle.commands.specs.Answers.{as_byte};
+ghost use Rattle.refusals.specs.Refusal.{refused, nine};
+ghost use Rattle.bq769x0.specs.Registers.{soundly};
 ghost use Rattle.bits.specs.Bits.{putting};
+ghost use Rattle.commands.specs.Answers.{as_byte};
 ghost use Rattle.commands.specs.Registers.{read_register, changing};
 
+use bq769x0::BQ769x0;
 use bus::Bus;
-use bus::link::Link;
 use refusals::Error;
 
-pub(crate) fn read_register(link: Link, reg: u8, bus: &mut Bus) -> Result<u8, Error>
-    ensures { does (read_register link reg) bus (as_byte result) }
+pub(crate) fn read_register(device: &BQ769x0, reg: u8, bus: &mut Bus) -> Result<u8, Error>
+    ensures { does (soundly device.now (refused nine) (read_register device.now.link reg)) bus (as_byte result) }
 {
+    if !device.is_sound() {
+        return Err(Error::BadDevice);
+    }
     let mut data = [0u8; 1];
-    raw::short::read_one(link, reg, &mut data, bus)?;
+    raw::short::read_one(device.link, reg, &mut data, bus)?;
     Ok(data[0])
 }
 
 // The bits of a mask anew, the others as they are read.
 pub(crate) fn change_bits(
-    link: Link,
+    device: &BQ769x0,
     reg: u8,
     mask: u8,
     bits: u8,
     bus: &mut Bus,
 ) -> Result<(), Error>
-    ensures { does (changing link reg (putting mask bits)) bus (as_raw result) }
+    ensures { does (soundly device.now (refused nine) (changing device.now.link reg (putting mask bits))) bus (as_raw result) }
 {
-    let byte = read_register(link, reg, bus)?;
-    raw::short::write_one(link, reg, &[byte & !mask | bits], bus)
+    let byte = read_register(device, reg, bus)?;
+    raw::short::write_one(device.link, reg, &[byte & !mask | bits], bus)
 }

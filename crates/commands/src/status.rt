@@ -15,10 +15,7 @@ use units::flags::{Stat, SysStat};
 pub fn sys_stat(device: &BQ769x0, bus: &mut Bus) -> Result<Stat, Error>
     ensures { does (sys_stat device.now) bus (as_stat result) }
 {
-    if !device.is_sound() {
-        return Err(Error::BadDevice);
-    }
-    let bits = register::read_register(device.link, 0x00, bus)?;
+    let bits = register::read_register(device, 0x00, bus)?;
     Ok(Stat { bits })
 }
 

@@ -5,51 +5,43 @@ ghost use Rattle.bus.specs.Lent.{does};
 ghost use Rattle.bus.specs.Raw.{as_raw};
 ghost use Rattle.commands.specs.Answers.{as_flag};
 ghost use Rattle.bits.specs.Bits.{switching};
+ghost use Rattle.bq769x0.specs.Registers.{soundly};
+ghost use Rattle.refusals.specs.Refusal.{refused, nine};
 ghost use Rattle.commands.specs.Registers.{changing};
 ghost use Rattle.commands.specs.Commands.{discharge, charge, is_charge_enabled};
 
 use crate::register;
 use bq769x0::BQ769x0;
 use bus::Bus;
-use bus::link::Link;
 use refusals::Error;
 
 pub fn discharge(device: &BQ769x0, enable: bool, bus: &mut Bus) -> Result<(), Error>
     ensures { does (discharge device.now enable) bus (as_raw result) }
 {
-    if !device.is_sound() {
-        return Err(Error::BadDevice);
-    }
-    switch_bit(device.link, 0b0000_0010, enable, bus)
+    switch_bit(device, 0b0000_0010, enable, bus)
 }
 
 pub fn charge(device: &BQ769x0, enable: bool, bus: &mut Bus) -> Result<(), Error>
     ensures { does (charge device.now enable) bus (as_raw result) }
 {
-    if !device.is_sound() {
-        return Err(Error::BadDevice);
-    }
-    switch_bit(device.link, 0b0000_0001, enable, bus)
+    switch_bit(device, 0b0000_0001, enable, bus)
 }
 
 pub fn is_charge_enabled(device: &BQ769x0, bus: &mut Bus) -> Result<bool, Error>
     ensures { does (is_charge_enabled device.now) bus (as_flag result) }
 {
-    if !device.is_sound() {
-        return Err(Error::BadDevice);
-    }
-    let byte = register::read_register(device.link, BQ769x0::SYS_CTRL2, bus)?;
+    let byte = register::read_register(device, BQ769x0::SYS_CTRL2, bus)?;
     Ok(bits::holds(0b0000_0001, byte))
 }
 
 // No write where the bit stands so already.
-fn switch_bit(link: Link, mask: u8, enable: bool, bus: &mut Bus) -> Result<(), Error>
-    ensures { does (changing link 0x05 (switching mask enable)) bus (as_raw result) }
+fn switch_bit(device: &BQ769x0, mask: u8, enable: bool, bus: &mut Bus) -> Result<(), Error>
+    ensures { does (soundly device.now (refused nine) (changing device.now.link 0x05 (switching mask enable))) bus (as_raw result) }
 {
-    let byte = register::read_register(link, BQ769x0::SYS_CTRL2, bus)?;
+    let byte = register::read_register(device, BQ769x0::SYS_CTRL2, bus)?;
     if bits::stands(mask, enable, byte) {
         return Ok(());
     }
     let changed = [bits::switched(mask, enable, byte)];
-    raw::short::write_one(link, BQ769x0::SYS_CTRL2, &changed, bus)
+    raw::short::write_one(device.link, BQ769x0::SYS_CTRL2, &changed, bus)
 }
