@@ -8,25 +8,20 @@ use Rattle.bus.specs.Raw.{Done}
 use Rattle.bq769x0.specs.Record.{device_allowed, accepts, is_sound, leaves, fresh, made_by, new_for}
 use Rattle.bq769x0.specs.declared.BQ769x0.{BQ769x0}
 use Rattle.bq769x0.proofs.Keeps.{new_sound}
-use Rattle.job_setup.specs.JobInit.{no_device}
 
-abbrev pub left_by : Answer Done → BQ769x0 → BQ769x0
-left_by (value done) d = d
-left_by (refused r) d = no_device
-
-pub left_is : (x address n : ℕ) (check : Bool)
-    → (new_for x address n check).device ≡ left_by (new_for x address n check).answer (fresh x address n check)
+pub new_by_answer : (x address n : ℕ) (check : Bool)
+    → new_for x address n check ≡ made_by (new_for x address n check).answer (fresh x address n check)
 unfolding new_for
-left_is x address n check = by (device_allowed x address n)
+new_by_answer x address n check = by (device_allowed x address n)
   where
-    by : (y : Answer Done) → (made_by y (fresh x address n check)).device ≡ left_by (made_by y (fresh x address n check)).answer (fresh x address n check)
+    by : (y : Answer Done) → made_by y (fresh x address n check) ≡ made_by (made_by y (fresh x address n check)).answer (fresh x address n check)
     by (value done) = refl
     by (refused r) = refl
 
-pub sound_is : (x address n : ℕ) (check : Bool)
+pub new_sound_by_answer : (x address n : ℕ) (check : Bool)
     → is_sound (new_for x address n check).device ≡ accepts (new_for x address n check).answer
 unfolding new_for is_sound device_allowed
-sound_is x address n check = by (device_allowed x address n) (λ d e. new_sound x address n check e refl)
+new_sound_by_answer x address n check = by (device_allowed x address n) (λ d e. new_sound x address n check e refl)
   where
     by : (y : Answer Done) → ((d : BQ769x0) → leaves (value tt) d ≡ made_by y (fresh x address n check) → is_sound d ≡ true)
         → is_sound (made_by y (fresh x address n check)).device ≡ accepts (made_by y (fresh x address n check)).answer
