@@ -16,11 +16,11 @@ use Rattle.procedure.specs.Cells.{Filled, filled}
 use Rattle.procedure.specs.Wired.{Shown, shown}
 
 -- `cell_voltages`
-pub cells_agree : (p : Prog Filled) (b : Bus) (r r' : Result Done Error) (d d' : BQ769x0) (list list' : List ℤ) (left left' : Bus)
-    → ends (filled (as_raw r) d list) left ≡ on_tape p b
-    → ends (filled (as_raw r') d' list') left' ≡ on_tape p b
-    → (r ≡ r') × (d ≡ d') × (list ≡ list') × (left ≡ left')
-cells_agree p b r r' d d' list list' left left' e e' =
+pub cells_agree : (p : Prog Filled) (b : Bus) (r r' : Result Done Error) (left left' : BQ769x0) (list list' : List ℤ) (after after' : Bus)
+    → ends (filled (as_raw r) left list) after ≡ on_tape p b
+    → ends (filled (as_raw r') left' list') after' ≡ on_tape p b
+    → (r ≡ r') × (left ≡ left') × (list ≡ list') × (after ≡ after')
+cells_agree p b r r' left left' list list' after after' e e' =
     let same = e ∙ sym e' in (
       raw_agree r r' (ap (λ (x : Ran Filled). x.answer.answer) same),
       ap (λ (x : Ran Filled). x.answer.device) same,
@@ -29,12 +29,12 @@ cells_agree p b r r' d d' list list' left left' e e' =
     )
 
 -- `wired`
-pub wired_agree : (p : Prog Shown) (b : Bus) (r r' : Result Done Error) (d d' : BQ769x0) (inputs inputs' : List ℕ) (list list' : List ℤ)
-    (left left' : Bus)
-    → ends (shown (as_raw r) d inputs list) left ≡ on_tape p b
-    → ends (shown (as_raw r') d' inputs' list') left' ≡ on_tape p b
-    → (r ≡ r') × (d ≡ d') × (inputs ≡ inputs') × (list ≡ list') × (left ≡ left')
-wired_agree p b r r' d d' inputs inputs' list list' left left' e e' =
+pub wired_agree : (p : Prog Shown) (b : Bus) (r r' : Result Done Error) (left left' : BQ769x0) (inputs inputs' : List ℕ) (list list' : List ℤ)
+    (after after' : Bus)
+    → ends (shown (as_raw r) left inputs list) after ≡ on_tape p b
+    → ends (shown (as_raw r') left' inputs' list') after' ≡ on_tape p b
+    → (r ≡ r') × (left ≡ left') × (inputs ≡ inputs') × (list ≡ list') × (after ≡ after')
+wired_agree p b r r' left left' inputs inputs' list list' after after' e e' =
     let same = e ∙ sym e' in (
       raw_agree r r' (ap (λ (x : Ran Shown). x.answer.answer) same),
       ap (λ (x : Ran Shown). x.answer.device) same,

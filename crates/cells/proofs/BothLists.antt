@@ -12,8 +12,10 @@ use lib.Signed.{mag, ◌≤ℤ◌}
 use lib.Seq.{length-take-le}
 use lib.ListN.{length, take, drop, get_or, length-map, length-append, length-drop, get_or-append, get_or-map}
 use borrow.Author.Tests.{eq-eqb}
+use Rattle.std.specs.Prelude.{Result, Ok}
 use Rattle.laws.proofs.Tests.{both_left, both_right, agree, agreeing}
 use Rattle.refusals.specs.Refusal.{value}
+use Rattle.refusals.specs.declared.Error.{Error}
 use Rattle.refusals.proofs.Values.{same_value}
 use Rattle.adc.specs.Crate.{CrateGives}
 use Rattle.sizes.specs.Sizes.{is_count}
@@ -21,9 +23,8 @@ use Rattle.wiring.specs.Tables.{fitted}
 use Rattle.wiring.proofs.Packs.{of_pack_lem}
 use Rattle.sizes.proofs.Sizes.{at_most_15}
 use Rattle.bus.specs.Transfers.{Bus}
-use Rattle.bus.specs.Programs.{Ran, ran, on_tape}
-use Rattle.bus.specs.Raw.{as_raw, read_bytes}
-use Rattle.bus.specs.declared.link.RawAnswer.TheVariants as R
+use Rattle.bus.specs.Programs.{Ran, ends, on_tape}
+use Rattle.bus.specs.Raw.{Done, as_raw, read_bytes}
 use Rattle.bus.proofs.Sized.{bytes_size}
 use Rattle.bq769x0.specs.Record.{is_sound}
 use Rattle.bq769x0.specs.Figures.{volts, first_cells}
@@ -35,7 +36,6 @@ use Rattle.procedure.specs.Taking.{of_input, voltages, taking}
 use Rattle.procedure.specs.Cells.{Filled, filled, untouched, listed}
 use Rattle.procedure.specs.Cells.{read_cells, cell_voltages}
 use Rattle.procedure.specs.Wired.{of_registers}
-use Rattle.cells.specs.declared.Cells.{Cells}
 use Rattle.cells.proofs.ByRegisters.{of_input_lem, crate_uv_of, registers_crate, registers_range, kth_listed, ByRegisters}
 use Rattle.moves.proofs.CrateList.{at, at_input, shows}
 use Rattle.laws.proofs.Lists.{map_same, map_take}
@@ -183,10 +183,10 @@ module _ (d : BQ769x0) (held : length d.readings.cells ≡ 15) (b : Bus) (list :
       of_input_lem d.adc bytes d.link.x _ size within.0 within.1 in
       record { sound = sound; bytes = bytes; read = read; volts = ap (λ (l : List ℤ). l over list) listing }
 
-  pub crate_by_registers : (r : Cells) (list' : List ℤ) (log : List ℕ)
-      → ran (filled (as_raw r.answer) r.device list') b.tape log r.at ≡ on_tape (cell_voltages d list) b
-      → r.answer ≡ R.Done → ByCrate d b list list'
-  crate_by_registers r list' log promise done = subst⁻¹ Accepted promise accepted (ap as_raw done)
+  pub crate_by_registers : (r : Result Done Error) (left : BQ769x0) (list' : List ℤ) (after : Bus)
+      → ends (filled (as_raw r) left list') after ≡ on_tape (cell_voltages d list) b
+      → r ≡ Ok tt → ByCrate d b list list'
+  crate_by_registers r left list' after promise done = subst⁻¹ Accepted promise accepted (ap as_raw done)
 
 -- ---- the cell at a place, from 0
 module _ {d : BQ769x0} {b : Bus} {list list' : List ℤ} (read : ByCrate d b list list')

@@ -9,8 +9,10 @@ use native.Mathlib.Omega.{arith}
 use lib.IntN.{ℤ, pos, neg_ℤ}
 use lib.ListN.{length, get_or, length-map, get_or-append, get_or-map}
 use lib.Signed.{mag, ◌≤ℤ◌}
+use Rattle.std.specs.Prelude.{Result, Ok}
 use Rattle.numbers.specs.Numbers.{word}
 use Rattle.refusals.specs.Refusal.{value}
+use Rattle.refusals.specs.declared.Error.{Error}
 use Rattle.adc.specs.Conversion.{millivolts}
 use Rattle.adc.specs.Crate.{crate_uv, CrateGives}
 use Rattle.adc.proofs.Crate.{input_crate, input_between, input_range}
@@ -21,9 +23,8 @@ use Rattle.wiring.specs.Blocks.{shorted}
 use Rattle.wiring.proofs.Rows.{as_many, row_within}
 use Rattle.wiring.proofs.Undone.{input_at, every_pack_is}
 use Rattle.bus.specs.Transfers.{Bus}
-use Rattle.bus.specs.Programs.{Ran, ran, on_tape}
-use Rattle.bus.specs.Raw.{as_raw, read_bytes}
-use Rattle.bus.specs.declared.link.RawAnswer.TheVariants as R
+use Rattle.bus.specs.Programs.{Ran, ends, on_tape}
+use Rattle.bus.specs.Raw.{Done, as_raw, read_bytes}
 use Rattle.bus.proofs.Sized.{bytes_size}
 use Rattle.bq769x0.specs.Record.{is_sound}
 use Rattle.bq769x0.specs.declared.BQ769x0.{BQ769x0}
@@ -32,7 +33,6 @@ use Rattle.procedure.specs.Inputs.{converted}
 use Rattle.procedure.specs.Taking.{of_input}
 use Rattle.procedure.specs.Wired.{high_of, byte_of, of_registers}
 use Rattle.procedure.specs.Wired.{Shown, shown, unshown, showing, read_wired, wired}
-use Rattle.cells.specs.declared.Cells.{Cells}
 use Rattle.procedure.proofs.Fitted.{of_fitted}
 use Rattle.laws.proofs.Lists.{map_same, get_d_any}
 use Rattle.procedure.proofs.Converted.{length_converted, converted_at}
@@ -116,10 +116,10 @@ module _ (d : BQ769x0) (b : Bus) (inputs : List ℕ) (list : List ℤ) where
       }
 
   -- by its promise, every run of the code that is accepted
-  pub by_registers : (r : Cells) (inputs' : List ℕ) (list' : List ℤ) (log : List ℕ)
-      → ran (shown (as_raw r.answer) r.device inputs' list') b.tape log r.at ≡ on_tape (wired d inputs list) b
-      → r.answer ≡ R.Done → ByRegisters d b inputs list inputs' list'
-  by_registers r inputs' list' log promise done = subst⁻¹ Accepted promise accepted (ap as_raw done)
+  pub by_registers : (r : Result Done Error) (left : BQ769x0) (inputs' : List ℕ) (list' : List ℤ) (after : Bus)
+      → ends (shown (as_raw r) left inputs' list') after ≡ on_tape (wired d inputs list) b
+      → r ≡ Ok tt → ByRegisters d b inputs list inputs' list'
+  by_registers r left inputs' list' after promise done = subst⁻¹ Accepted promise accepted (ap as_raw done)
 
 -- ---- the cell at a place, from 0
 module _ {d : BQ769x0} {b : Bus} {inputs inputs' : List ℕ} {list list' : List ℤ} (read : ByRegisters d b inputs list inputs' list')

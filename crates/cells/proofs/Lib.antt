@@ -4,4 +4,6 @@ pub mod ByRegisters
 mod Extremes
 pub mod Outcomes
 pub mod Spread
+mod AllInputs
 mod Taken
+mod Told

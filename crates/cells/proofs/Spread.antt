@@ -9,14 +9,15 @@ use lib.IntN.{ℤ, pos, neg_ℤ, ◌+ℤ◌}
 use lib.ListN.{length, take, drop, get_or, length-map}
 use lib.Seq.{take_at, get_or-take}
 use lib.Signed.{mag, ◌≤ℤ◌}
+use Rattle.std.specs.Prelude.{Result, Ok}
 use Rattle.numbers.proofs.Between.{Between, of_add, wider, in_order}
 use Rattle.refusals.specs.Refusal.{value}
+use Rattle.refusals.specs.declared.Error.{Error}
 use Rattle.wiring.specs.Tables.{fitted}
 use Rattle.wiring.proofs.Rows.{as_many}
 use Rattle.bus.specs.Transfers.{Bus}
-use Rattle.bus.specs.Programs.{Ran, ran, on_tape}
-use Rattle.bus.specs.Raw.{as_raw}
-use Rattle.bus.specs.declared.link.RawAnswer.TheVariants as R
+use Rattle.bus.specs.Programs.{Ran, ends, on_tape}
+use Rattle.bus.specs.Raw.{Done, as_raw}
 use Rattle.bq769x0.specs.Figures.{all_by, spread_of}
 use Rattle.bq769x0.specs.declared.BQ769x0.{BQ769x0}
 use Rattle.bq769x0.specs.declared.Spread.{Spread}
@@ -25,7 +26,6 @@ use Rattle.procedure.specs.Inputs.{converted}
 use Rattle.procedure.specs.Taking.{of_input, voltages}
 use Rattle.procedure.specs.Wired.{of_registers, Shown, shown, unshown, showing, read_wired, wired}
 use Rattle.procedure.proofs.Reading.{by_call}
-use Rattle.cells.specs.declared.Cells.{Cells}
 use Rattle.cells.proofs.ByRegisters.{ByRegisters, by_registers, kth_between}
 use Rattle.cells.proofs.Extremes.{Stands, to_all, is_one, lowest, highest}
 use Rattle.cells.proofs.Taken.{some_cells}
@@ -71,11 +71,11 @@ module _ (d : BQ769x0) (b : Bus) (inputs : List ℕ) (list : List ℤ) where
       ap spread_of (sym (take_at volts (drop (length volts) list) n size))
 
   -- of every run of the code that is accepted, by its promise
-  module _ (r : Cells) (inputs' : List ℕ) (list' : List ℤ) (log : List ℕ)
-      (promise : ran (shown (as_raw r.answer) r.device inputs' list') b.tape log r.at ≡ on_tape (wired d inputs list) b)
-      (done : r.answer ≡ R.Done) where
+  module _ (r : Result Done Error) (left : BQ769x0) (inputs' : List ℕ) (list' : List ℤ) (after : Bus)
+      (promise : ends (shown (as_raw r) left inputs' list') after ≡ on_tape (wired d inputs list) b)
+      (done : r ≡ Ok tt) where
     abbrev spread : Spread
-    spread = r.device.readings.spread
+    spread = left.readings.spread
 
     abbrev cells : List ℤ
     cells = take n list'
@@ -84,7 +84,7 @@ module _ (d : BQ769x0) (b : Bus) (inputs : List ℕ) (list : List ℤ) where
     of_the_list = subst⁻¹ Figured promise figured (ap as_raw done)
 
     pub read : ByRegisters d b inputs list inputs' list'
-    read = by_registers d b inputs list r inputs' list' log promise done
+    read = by_registers d b inputs list r left inputs' list' after promise done
 
     as_many_cells : length cells ≡ n
     as_many_cells =

@@ -1,33 +1,26 @@
 -- What private contracts cite: a reading taken into the record, and what the code leaves in the sixteen places for the inputs. Nobody has to
 -- believe it.
 -- Assumes nothing.
-use Rattle.std.specs.Prelude.{◌≡◌, List, ℕ, ◌≤◌, ◌<◌, ℤ, pos, nat_abs, not, length, take, get_or, Result, Ok}
-use Rattle.refusals.specs.Refusal.{Answer, value, refused_if, as_answer}
-use Rattle.refusals.specs.declared.Error.{Error}
+use Rattle.std.specs.Prelude.{◌≡◌, List, ℕ, ◌≤◌, ◌<◌, ℤ, pos, nat_abs, not, length, take, get_or}
+use Rattle.refusals.specs.Refusal.{Answer, value, refused_if}
 use Rattle.adc.specs.declared.transfer.AdcTransferFunction.{AdcTransferFunction}
 use Rattle.bus.specs.Programs.{Prog, ret, ◌or_leave◌, ◌>>=◌}
-use Rattle.bus.specs.Lent.{LentBus, does}
 use Rattle.bus.specs.Raw.{Done}
-use Rattle.bus.specs.declared.link.Link.{Link}
 use Rattle.bq769x0.specs.Record.{Left, leaves, leaving, is_sound}
 use Rattle.bq769x0.specs.declared.BQ769x0.{BQ769x0}
 use Rattle.procedure.specs.Inputs.{converted, read_inputs}
 use Rattle.procedure.specs.Taking.{taking}
 use Rattle.procedure.specs.Cells.{ready}
 
--- ---- a reading taken into the record: 9, 4, 19 ahead of it
+-- ---- ahead of a reading: 9, 4, 19
 abbrev pub tests : BQ769x0 → ℕ → Answer Done
 tests d room = refused_if (not (is_sound d)) 9 (ready d room)
 
-abbrev pub read_ready : BQ769x0 → Prog (Left Done)
-read_ready d = do
+-- a reading taken into the record
+abbrev pub reads : BQ769x0 → Prog (Left Done)
+reads d = do
   inputs ← read_inputs d.link d.adc or_leave leaving d
   ret (leaves (value tt) (taking d inputs))
-
-abbrev pub read_all : BQ769x0 → ℕ → Prog (Left Done)
-read_all d room = do
-  _ ← ret (tests d room) or_leave leaving d
-  read_ready d
 
 -- ---- the places for the inputs
 -- the first n of them are such that fifteen add up in an i32
@@ -40,8 +33,3 @@ pub record Held (adc : AdcTransferFunction) (bytes : List ℕ) (n : ℕ) (cells 
   pub room : length cells ≡ 16
   pub first : take n cells ≡ take n (converted adc bytes)
   pub small : Small n cells
-
--- a read of all inputs: it answers with the first X of what the code has
-pub record Taken (link : Link) (adc : AdcTransferFunction) (bus : LentBus) (r : Result (List ℤ) Error) : Type 0 where
-  pub read : does (read_inputs link adc) bus (as_answer (take link.x) r)
-  pub small : (inputs : List ℤ) → r ≡ Ok inputs → Small link.x inputs

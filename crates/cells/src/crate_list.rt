@@ -12,7 +12,8 @@ use refusals::Error;
 pub fn cell_voltages(device: &mut BQ769x0, list: &mut [i32], bus: &mut Bus) -> Result<(), Error>
     ensures { does (cell_voltages device.old list.old) bus (filled (as_raw result) device.new list.new) }
 {
-    taking::read_all(device, list.len(), bus)?;
+    taking::test(device, list.len())?;
+    taking::read(device, bus)?;
     taking::fill(&device.readings.cells[..device.cell_count as usize], list);
     Ok(())
 }

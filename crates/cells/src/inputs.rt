@@ -1,8 +1,11 @@
 // All of the chip's inputs, read at once and converted to millivolts.
-ghost use Rattle.std.specs.Prelude.{◌≡◌, ◌+◌, ◌≤◌, nat_abs};
+ghost use Rattle.std.specs.Prelude.{◌≡◌, ◌+◌, ◌≤◌, nat_abs, take, IfOk};
 ghost use Rattle.numbers.specs.Numbers.{word};
 ghost use Rattle.adc.specs.Conversion.{millivolts};
-ghost use Rattle.cells.specs.Inside.{Held, Taken};
+ghost use Rattle.refusals.specs.Refusal.{as_answer};
+ghost use Rattle.bus.specs.Lent.{does};
+ghost use Rattle.procedure.specs.Inputs.{read_inputs};
+ghost use Rattle.cells.specs.Inside.{Small, Held};
 
 use adc::transfer::AdcTransferFunction;
 use bus::Bus;
@@ -16,7 +19,8 @@ pub(crate) fn read_inputs(
     bus: &mut Bus,
 ) -> Result<[i32; 16], Error>
     requires { (link.x ≤ 15) × (adc.gain ≤ 396) }
-    ensures { Taken link adc bus result }
+    ensures read { does (read_inputs link adc) bus (as_answer (take link.x) result) }
+    ensures small { IfOk result (Small link.x) }
 {
     let x = link.x as usize;
     let mut buf = [0; 32];

@@ -1,4 +1,4 @@
-// A reading of all inputs, over the cells that the record holds, for a caller with room for so many.
+// A reading of all inputs, over the cells that the record holds.
 ghost use Rattle.std.specs.Prelude.{◌≡◌, map, ℕ, ◌≤◌, ◌<◌, true, length, get_or, take};
 ghost use Rattle.laws.specs.Over.{◌over◌};
 ghost use Rattle.bus.specs.Lent.{does};
@@ -7,7 +7,7 @@ ghost use Rattle.bq769x0.specs.Record.{leaves, is_sound};
 ghost use Rattle.bq769x0.specs.Figures.{volts};
 ghost use Rattle.procedure.specs.Inputs.{as_cells};
 ghost use Rattle.procedure.specs.Taking.{of_input};
-ghost use Rattle.cells.specs.Inside.{tests, read_all, read_ready};
+ghost use Rattle.cells.specs.Inside.{tests, reads};
 
 use crate::{figures, inputs};
 use bq769x0::BQ769x0;
@@ -16,16 +16,8 @@ use refusals::Error;
 use units::MilliVolts;
 use wiring::tables;
 
-// Where it is refused nothing of the record is touched.
-pub(crate) fn read_all(device: &mut BQ769x0, room: usize, bus: &mut Bus) -> Result<(), Error>
-    ensures { does (read_all device.old room) bus (leaves (as_raw result) device.new) }
-{
-    test(device, room)?;
-    read_ready(device, bus)
-}
-
-// 9, 4, 19.
-fn test(device: &BQ769x0, room: usize) -> Result<(), Error>
+// 9, 4, and 19 where there is room for fewer cells than the pack has.
+pub(crate) fn test(device: &BQ769x0, room: usize) -> Result<(), Error>
     ensures { as_raw result ≡ tests device.now room }
 {
     if !device.is_sound() {
@@ -40,10 +32,11 @@ fn test(device: &BQ769x0, room: usize) -> Result<(), Error>
     Ok(())
 }
 
-// On a record that passes the tests.
-fn read_ready(device: &mut BQ769x0, bus: &mut Bus) -> Result<(), Error>
+// Where the read is refused nothing of the record is touched.
+pub(crate) fn read(device: &mut BQ769x0, bus: &mut Bus) -> Result<(), Error>
     requires { is_sound device.old ≡ true }
-    ensures { does (read_ready device.old) bus (leaves (as_raw result) device.new) }
+    ensures read { does (reads device.old) bus (leaves (as_raw result) device.new) }
+    ensures pack { (device.new.link ≡ device.old.link) × (device.new.cell_count ≡ device.old.cell_count) }
 {
     let x = device.link.x;
     let fitted = tables::fitted(x, device.cell_count);

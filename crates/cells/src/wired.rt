@@ -18,7 +18,8 @@ pub fn wired(
     ensures { does (wired device.old inputs.old list.old) bus
         (shown (as_raw result) device.new inputs.new list.new) }
 {
-    taking::read_all(device, inputs.len().min(list.len()), bus)?;
+    taking::test(device, inputs.len().min(list.len()))?;
+    taking::read(device, bus)?;
     let fitted = tables::fitted(device.link.x, device.cell_count);
     inputs[..fitted.len()].copy_from_slice(fitted);
     taking::fill(&device.readings.wired[..fitted.len()], list);
