@@ -36,7 +36,7 @@ pub fn bq769x0_init(job: &[u8], tape: &[u8], log: &mut [u8], out: &mut [u8; 36])
         ≡ as_c (on_tape (job_init job.now) (lent_bus tape log start)) }
 {
     let mut bus = Bus::new(tape, log);
-    let mut head = Head::new(0, 0, 0, false).head;
+    let mut head = Head::none();
     let answer = job_setup::set_up(job, &mut head, &mut bus);
     told::values(&answer, bus.at, out)
 }
@@ -67,7 +67,7 @@ pub fn bq769x0_init_cells(
         ≡ as_list (on_tape (job_cells job.now list.old) (lent_bus tape log start)) }
 {
     let mut bus = Bus::new(tape, log);
-    let mut device = BQ769x0::new(0, 0, 0, false).device;
+    let mut device = BQ769x0::of_head(Head::none());
     let answer = init_cells(job, &mut device, list, &mut bus);
     told::values(&answer, bus.at, out)
 }
@@ -103,7 +103,7 @@ pub fn bq769x0_init_wired(
         (lent_bus tape log start)) }
 {
     let mut bus = Bus::new(tape, log);
-    let mut device = BQ769x0::new(0, 0, 0, false).device;
+    let mut device = BQ769x0::of_head(Head::none());
     let answer = init_wired(job, &mut device, inputs, list, &mut bus);
     spread::store(&answer, &device, spread);
     told::values(&answer, bus.at, out)
