@@ -42,7 +42,7 @@ impl InNumber for u8 {
     ghost in_number = { itself };
 
     fn in_number(self) -> usize {
-        self as usize
+        usize::from(self)
     }
 }
 
@@ -50,7 +50,7 @@ impl InNumber for bool {
     ghost in_number = { bit_of };
 
     fn in_number(self) -> usize {
-        self as usize
+        usize::from(self)
     }
 }
 
@@ -85,7 +85,7 @@ impl InNumber for Stat {
     ghost in_number = { bits_of };
 
     fn in_number(self) -> usize {
-        self.bits as usize
+        usize::from(self.bits)
     }
 }
 

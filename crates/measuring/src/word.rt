@@ -14,5 +14,5 @@ pub(crate) fn read_word(link: Link, reg: u8, bus: &mut Bus) -> Result<u16, Error
 {
     let mut bytes = [0u8; 2];
     raw::short::read_two(link, reg, &mut bytes, bus)?;
-    Ok(numbers::be_u16(bytes[0], bytes[1]))
+    Ok(u16::from_be_bytes(bytes))
 }
