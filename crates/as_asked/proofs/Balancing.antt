@@ -22,12 +22,10 @@ use Rattle.cellbal.specs.Broken.{Exactly}
 use Rattle.cellbal.specs.Registers.{register_count, three_for, registers_for, set_of}
 use Rattle.cellbal.proofs.Exactly.{broken_exactly, kept_exactly}
 use Rattle.cellbal.proofs.Places.{digit, count_range, length_registers, as_read_lem, set_bound}
-use Rattle.bus.specs.Transfers.{bus_of}
-use Rattle.bus.specs.Programs.{ret, ran, on_tape, ◌or_leave◌, ◌>>=◌}
-use Rattle.bus.specs.Raw.{Done, as_raw, read_bytes, write_raw}
+use Rattle.bus.specs.Lent.{LentBus, does}
+use Rattle.bus.specs.Programs.{ret, ◌or_leave◌, ◌>>=◌}
+use Rattle.bus.specs.Raw.{Done, read_bytes, write_raw}
 use Rattle.bus.specs.Shown.{Made, registers_written}
-use Rattle.bus.specs.declared.Cursor.{Cursor}
-use Rattle.bus.specs.declared.link.Raw.{Raw}
 use Rattle.bus.proofs.OfBytes.{AllBytes}
 use Rattle.bus.proofs.Throughout.{throughout, throughout_pure, throughout_weaken}
 use Rattle.bus.proofs.Exchanges.{WriteSeen, up_to_21, unsent, write_seen}
@@ -36,9 +34,7 @@ use Rattle.bq769x0.specs.declared.BQ769x0.{BQ769x0}
 use Rattle.bq769x0.proofs.Speaks.{sound_size}
 use Rattle.chip.proofs.Asks.{nothing, asks_call, asks_pure}
 use Rattle.chip.proofs.Fed.{read_short, write_short}
-use Rattle.commands.specs.Answers.{as_set}
 use Rattle.commands.specs.Commands.{balance_set, balance_get}
-use Rattle.commands.specs.declared.balancing.SetRead.{SetRead}
 use Rattle.as_asked.specs.Commands.{flag}
 use Rattle.as_asked.specs.Seen.{Shows}
 use Rattle.as_asked.specs.Tables.{Table01, table01}
@@ -139,12 +135,11 @@ module _ (d : BQ769x0) (set limit : ℕ) (two : set < 2 ^ 16) where
       (λ a e. throughout_weaken Holds (WriteSeen d.link 0x01 bytes) (write_raw d.link 0x01 bytes)
       (λ y h q all. sent_shown e y h q) (write_seen d.link 0x01 bytes some))
 
-  pub set_shows : (tape log : List ℕ) (at : Cursor) (gave : Raw) (log' : List ℕ) → Bytes tape
-      → ran (as_raw gave.answer) tape log' gave.at ≡ on_tape (balance_set d set limit) (bus_of tape log at)
-      → Shows (λ h. SetAsAsked d h set limit) tape log' at gave.at (as_raw gave.answer)
+  pub set_shows : (bus : LentBus) (y : Answer Done) → Bytes bus.entry.now.tape.now → does (balance_set d set limit) bus y
+      → Shows (λ h. SetAsAsked d h set limit) bus y
   unfolding balance_set
-  set_shows tape log at gave log' =
-      soundly_shows d (λ h. SetAsAsked d h set limit) _ (bus_of tape log at) _ _
+  set_shows bus y =
+      soundly_shows d (λ h. SetAsAsked d h set limit) _ bus y
       (λ e. unsent_shown nine (λ ok. absurd (true≢false (sym ok ∙ e))))
       (asks_pure refused _ (allowed x set limit) (λ a e. write_short d.link 0x01 bytes)) set_seen
 
@@ -192,10 +187,8 @@ module _ (d : BQ769x0) where
       made_seen d.link 0x01 n (count_range d.link.x (sound_size d ok)).0 set_of _
       (λ bytes many all. read_shown bytes ok many) (λ r h none all. refused_shown r h none)
 
-  pub get_shows : (tape log : List ℕ) (at : Cursor) (gave : SetRead) (log' : List ℕ) → Bytes tape
-      → ran (as_set gave.answer) tape log' gave.at ≡ on_tape (balance_get d) (bus_of tape log at)
-      → Shows (SetAsRead d) tape log' at gave.at (as_set gave.answer)
+  pub get_shows : (bus : LentBus) (y : Answer ℕ) → Bytes bus.entry.now.tape.now → does (balance_get d) bus y → Shows (SetAsRead d) bus y
   unfolding balance_get registers_written
-  get_shows tape log at gave log' =
-      soundly_shows d (SetAsRead d) _ (bus_of tape log at) _ _ (λ e. refused_shown nine [] refl)
+  get_shows bus y =
+      soundly_shows d (SetAsRead d) _ bus y (λ e. refused_shown nine [] refl)
       (asks_call refused _ (read_short d.link 0x01 n) (λ bytes. nothing)) get_seen

@@ -3,7 +3,7 @@
 use mathlib.Core.Path.{◌≡◌, refl}
 use mathlib.Core.Bool.{Bool, true, false, ◌&&◌}
 use mathlib.Core.List.{List, [], ◌∷◌, ◌++◌}
-use Prim.Native.Nat.{ℕ, suc, ◌<◌, ◌^◌}
+use Prim.Native.Nat.{ℕ, ◌<◌}
 use native.Mathlib.Omega.{arith}
 use lib.Bits.{bit_or}
 use lib.Dec.{T, eqb, eqb→eq}
@@ -16,11 +16,6 @@ use Rattle.bus.proofs.OfBytes.{AllBytes}
 use Rattle.as_asked.specs.Tables.{Table04, Table05, table05, counting}
 
 -- ---- bytes
--- a list whose every number is a byte
-pub of_bytes : (l : List ℕ) → ((i : ℕ) → get_or l i 0 < 2 ^ 8) → Bytes l
-of_bytes [] h = tt
-of_bytes (x ∷ l) h = (h 0, of_bytes l (λ i. h (suc i)))
-
 checked_bytes : (before bytes : List ℕ) → Bytes (checked before bytes) → Bytes bytes
 unfolding checked
 checked_bytes before [] h = tt

@@ -13,13 +13,11 @@ use Rattle.refusals.specs.Refusal.{Refusal, Answer, refused, nine, no}
 use Rattle.units.specs.Flags.{bit}
 use Rattle.units.specs.declared.flags.SysStat.{SysStat}
 use Rattle.bits.specs.Bits.{placed, putting, switching}
-use Rattle.bus.specs.Transfers.{bus_of}
-use Rattle.bus.specs.Programs.{Prog, ran, on_tape}
-use Rattle.bus.specs.Raw.{Done, as_raw, write_raw}
+use Rattle.bus.specs.Lent.{LentBus, does}
+use Rattle.bus.specs.Programs.{Prog}
+use Rattle.bus.specs.Raw.{Done, write_raw}
 use Rattle.bus.specs.Shown.{Made, registers_written}
-use Rattle.bus.specs.declared.Cursor.{Cursor}
 use Rattle.bus.specs.declared.link.Link.{Link}
-use Rattle.bus.specs.declared.link.Raw.{Raw}
 use Rattle.bus.proofs.Decoders.{Short}
 use Rattle.bus.proofs.OfBytes.{AllBytes}
 use Rattle.bus.proofs.Throughout.{throughout, throughout_if, throughout_weaken}
@@ -81,17 +79,17 @@ source_right T.InternalDie = tt
 source_right T.ExternalThermistor = tt
 
 -- ---- the runs
-module _ (d : BQ769x0) (tape log : List ℕ) (at : Cursor) (gave : Raw) (log' : List ℕ) (bytes : Bytes tape) where
+module _ (d : BQ769x0) (bus : LentBus) (y : Answer Done) (bytes : Bytes bus.entry.now.tape.now) where
   -- it kept the promise to do p
   abbrev Kept : Prog (Answer Done) → Type 0
-  Kept p = ran (as_raw gave.answer) tape log' gave.at ≡ on_tape p (bus_of tape log at)
+  Kept p = does p bus y
 
   abbrev Shown : (List Made → Answer Done → Type 0) → Type 0
-  Shown P = Shows P tape log' at gave.at (as_raw gave.answer)
+  Shown P = Shows P bus y
 
   by_promise : (P : List Made → Answer Done → Type 0) (p : Prog (Answer Done)) → P [] (refused nine) → Asks Short p
       → throughout (λ y h. AllBytes h → P h y) p → Kept (soundly d (refused nine) p) → Shown P
-  by_promise P p off short holds = soundly_shows d P p (bus_of tape log at) _ _ (λ e. off) short (λ sound. holds) bytes
+  by_promise P p off short holds = soundly_shows d P p bus y (λ e. off) short (λ sound. holds) bytes
 
   -- those that read their register first
   module _ {Table : Type 0} (same : Table → Table → Bool) (same_is : (x y : Table) → T (same x y) → x ≡ y)

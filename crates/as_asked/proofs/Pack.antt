@@ -14,10 +14,9 @@ use Rattle.refusals.specs.Refusal.{Refusal, Answer, value, refused, nine}
 use Rattle.refusals.proofs.Values.{same_value, refused_not}
 use Rattle.adc.specs.Conversion.{pack_millivolts}
 use Rattle.adc.proofs.Crate.{pack_crate, pack_range}
-use Rattle.bus.specs.Transfers.{bus_of}
-use Rattle.bus.specs.Programs.{Prog, ret, ◌or_leave◌, ◌>>=◌, ran, on_tape}
+use Rattle.bus.specs.Lent.{LentBus, does}
+use Rattle.bus.specs.Programs.{Prog, ret, ◌or_leave◌, ◌>>=◌}
 use Rattle.bus.specs.Shown.{Made, registers_written}
-use Rattle.bus.specs.declared.Cursor.{Cursor}
 use Rattle.bus.proofs.Decoders.{Short}
 use Rattle.bus.proofs.Exchanges.{unsent}
 use Rattle.bus.proofs.OfBytes.{AllBytes}
@@ -28,9 +27,8 @@ use Rattle.bq769x0.proofs.Sizes.{sound_sizes, sound_gain}
 use Rattle.chip.proofs.Asks.{Asks, nothing, asks_call}
 use Rattle.chip.proofs.Fed.{read_short}
 use Rattle.chip.proofs.RegisterBytes.{get_d_byte}
-use Rattle.measuring.specs.Pack.{as_voltage, voltage}
+use Rattle.measuring.specs.Pack.{voltage}
 use Rattle.measuring.specs.Word.{read_word}
-use Rattle.measuring.specs.declared.pack.VoltageRead.{VoltageRead}
 use Rattle.as_asked.specs.Pack.{ByBytes, PackVoltage}
 use Rattle.as_asked.specs.Seen.{Shows}
 use Rattle.as_asked.proofs.Bytes.{data_bytes, two_bytes}
@@ -110,9 +108,7 @@ module _ (d : BQ769x0) (i8 : mag d.adc.offset < 128) where
   reads_short =
       asks_call refused _ (asks_call refused _ (read_short d.link 0x2A 2) (λ bytes. nothing)) (λ reading. nothing)
 
-  pub voltage_shows : (tape log : List ℕ) (at : Cursor) (gave : VoltageRead) (log' : List ℕ) → Bytes tape
-      → ran (as_voltage gave.answer) tape log' gave.at ≡ on_tape (voltage d) (bus_of tape log at)
-      → Shows (PackVoltage d) tape log' at gave.at (as_voltage gave.answer)
+  pub voltage_shows : (bus : LentBus) (y : Answer ℤ) → Bytes bus.entry.now.tape.now → does (voltage d) bus y → Shows (PackVoltage d) bus y
   unfolding voltage registers_written
-  voltage_shows tape log at gave log' =
-      soundly_shows d (PackVoltage d) reads (bus_of tape log at) _ _ (λ e. refusing nine [] refl) reads_short reads_seen
+  voltage_shows bus y =
+      soundly_shows d (PackVoltage d) reads bus y (λ e. refusing nine [] refl) reads_short reads_seen

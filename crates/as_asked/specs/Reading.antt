@@ -1,20 +1,20 @@
 -- What an accepted read of registers shows: that the tape held exactly the frame of the bytes returned, with right check bytes where there are any.
 -- So no wrong check byte is ever accepted.
 -- Assumes nothing.
-use Rattle.std.specs.Prelude.{ℕ, ◌≤◌, ◌≡◌, List, [], ◌∷◌, length}
+use Rattle.std.specs.Prelude.{ℕ, ◌≤◌, ◌≡◌, List, [], ◌∷◌, length, Result}
 use Rattle.std.proofs.Math.Option.{some}
 use Rattle.refusals.specs.Refusal.{value}
 use Rattle.frames.specs.Frames.{read_frame}
-use Rattle.bus.specs.Raw.{as_raw}
-use Rattle.bus.specs.Shown.{made_between}
+use Rattle.refusals.specs.declared.Error.{Error}
+use Rattle.bus.specs.Lent.{LentBus}
+use Rattle.bus.specs.Raw.{Done, as_raw}
 use Rattle.bus.specs.Transfers.{read, done}
-use Rattle.bus.specs.declared.Cursor.{Cursor}
 use Rattle.bus.specs.declared.link.Link.{Link}
-use Rattle.bus.specs.declared.link.Raw.{Raw}
+use Rattle.as_asked.specs.Seen.{transfers_made}
 
--- a read of some registers, which gave this back, left this log, and these bytes
-abbrev pub ExactlyRead : Link → ℕ → List ℕ → Cursor → Raw → List ℕ → List ℕ → Type 0
-ExactlyRead link reg tape at gave log' bytes =
+-- a read of some registers on this bus, which answered so and gave back these bytes
+unfoldable pub ExactlyRead : Link → ℕ → LentBus → Result Done Error → List ℕ → Type 0
+ExactlyRead link reg bus answer bytes =
     let frame = read_frame link.check link.address bytes in
-    as_raw gave.answer ≡ value tt → 1 ≤ length bytes
-    → made_between tape log' at gave.at ≡ some ((read link.address reg (length frame), done frame) ∷ [])
+    as_raw answer ≡ value tt → 1 ≤ length bytes
+    → transfers_made bus ≡ some ((read link.address reg (length frame), done frame) ∷ [])

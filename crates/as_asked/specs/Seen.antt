@@ -7,7 +7,7 @@ use Rattle.refusals.specs.Refusal.{Answer}
 use Rattle.adc.specs.Registers.{calibration}
 use Rattle.adc.specs.declared.transfer.AdcTransferFunction.{AdcTransferFunction}
 use Rattle.bus.specs.Shown.{Made, logged, tape_fields, made_between, registers_read, first_of}
-use Rattle.bus.specs.declared.Cursor.{Cursor}
+use Rattle.bus.specs.Lent.{LentBus}
 use Rattle.bus.specs.declared.link.Link.{Link}
 
 module _ (link : Link) (seen : List Made) where
@@ -22,12 +22,18 @@ module _ (link : Link) (seen : List Made) where
       then some (calibration (get_or (read_from 0x50) 0 0) (get_or (read_from 0x50) 1 0) (get_or (read_from 0x59) 0 0))
       else none
 
--- a call with this tape, from one position to another, which left this log and answered so: between them the log reads back as transfers, and of
--- these, with what the tape said to them, P holds beside the answer
-pub record Shows {A : Type 0} (P : List Made → Answer A → Type 0) (tape log' : List ℕ) (from to : Cursor) (answer : Answer A) : Type 0 where
+-- the transfers that a call made on the bus that it was lent, with what its tape said to them, by its own log
+abbrev pub transfers_made : LentBus → Option (List Made)
+transfers_made bus = made_between bus.entry.now.tape.now bus.exit.now.log.now bus.entry.now.at bus.exit.now.at
+
+-- a call on this bus which answered so: its log reads back as transfers, and of these, with what the tape said to them, P holds beside the answer
+pub record Shows {A : Type 0} (P : List Made → Answer A → Type 0) (bus : LentBus) (answer : Answer A) : Type 0 where
   pub seen : List Made
-  pub reads_back : made_between tape log' from to ≡ some seen
+  pub reads_back : transfers_made bus ≡ some seen
   -- both positions are past their fields, and no further
-  pub tape_used_is : to.tape ≡ from.tape + length (tape_fields seen)
-  pub log_used_is : to.log ≡ from.log + length (logged seen)
+  pub tape_used_is : bus.exit.now.at.tape ≡ bus.entry.now.at.tape + length (tape_fields seen)
+  pub log_used_is : bus.exit.now.at.log ≡ bus.entry.now.at.log + length (logged seen)
+  -- the tape is as it was lent, and the log is the caller's still
+  pub tape_is : bus.exit.now.tape.now ≡ bus.entry.now.tape.now
+  pub log_is : bus.exit.now.log.ghost_name ≡ bus.entry.now.log.ghost_name
   pub holds : P seen answer

@@ -3,6 +3,9 @@
 // the demand is held to the code, on every input.
 #![tactic(auto)]
 
+ghost use Rattle.std.specs.Prelude.{◌^◌, ◌<◌};
+ghost use lib.Signed.{mag};
+ghost use Rattle.check_byte.specs.CheckByte.{Bytes};
 ghost use Rattle.plan.specs.Plan.{as_init};
 ghost use Rattle.bq769x0.specs.Record.{leaves};
 ghost use Rattle.runs.specs.Calls.{lent_call};
@@ -14,43 +17,54 @@ ghost use Rattle.as_asked.specs.Reading.{ExactlyRead};
 ghost use Rattle.measuring.specs.Pack.{as_voltage};
 
 use bq769x0::BQ769x0;
-use bus::Cursor;
-use bus::link::{Link, Raw};
+use bus::Bus;
+use bus::link::Link;
 use measuring::pack;
-use measuring::pack::VoltageRead;
-use plan::Config;
-use setup::left::Init;
+use plan::{CalculatedValues, Config};
+use refusals::Error;
+use units::MilliVolts;
 
 mod registers;
 
-fn init(device: BQ769x0, config: Config, tape: &[u8], log: &mut [u8], at: Cursor) -> Init
-    ensures { Shows (Demand2 device.link config) tape.now log.new at result.at (as_init result.answer) }
+// What a value's type says of it, where it stands behind a reference: a tape is of bytes.
+fn of_bytes(tape: &[u8])
+    ensures { Bytes tape.now }
+{}
+
+// And an offset is of eight bits.
+fn of_eight_bits(offset: i8)
+    ensures { mag offset < 2 ^ 7 }
+{}
+
+fn init(device: &mut BQ769x0, config: Config, bus: &mut Bus) -> Result<CalculatedValues, Error>
+    ensures { Shows (Demand2 device.old.link config) bus (as_init result) }
 {
-    setup::init(device, config, tape, log, at)
+    of_bytes(bus.tape);
+    setup::init(device, config, bus)
 }
 
 // The same call, on the model chip.
-fn init_on_chip(device: BQ769x0, config: Config, tape: &[u8], log: &mut [u8], at: Cursor) -> Init
-    ensures { SetOnEveryChip config device (lent_call tape log at (leaves (as_init result.answer) result.device) result.at) }
+fn init_on_chip(
+    device: &mut BQ769x0,
+    config: Config,
+    bus: &mut Bus,
+) -> Result<CalculatedValues, Error>
+    ensures { SetOnEveryChip config device.old (lent_call bus (leaves (as_init result) device.new)) }
 {
-    setup::init(device, config, tape, log, at)
+    setup::init(device, config, bus)
 }
 
-fn voltage(device: BQ769x0, tape: &[u8], log: &mut [u8], at: Cursor) -> VoltageRead
-    ensures { Shows (PackVoltage device) tape.now log.new at result.at (as_voltage result.answer) }
+#[tactic(auto, using(crate::proofs::Pack::voltage_shows))]
+fn voltage(device: &BQ769x0, bus: &mut Bus) -> Result<MilliVolts, Error>
+    ensures { Shows (PackVoltage device.now) bus (as_voltage result) }
 {
-    pack::voltage(device, tape, log, at)
+    of_bytes(bus.tape);
+    of_eight_bits(device.adc.offset);
+    pack::voltage(device, bus)
 }
 
-fn read_raw(
-    link: Link,
-    reg_address: u8,
-    data: &mut [u8],
-    tape: &[u8],
-    log: &mut [u8],
-    at: Cursor,
-) -> Raw
-    ensures { ExactlyRead link reg_address tape.now at result log.new «data».new }
+fn read_raw(link: Link, reg_address: u8, data: &mut [u8], bus: &mut Bus) -> Result<(), Error>
+    ensures { ExactlyRead link reg_address bus result «data».new }
 {
-    raw::read_raw(link, reg_address, data, tape, log, at)
+    raw::read_raw(link, reg_address, data, bus)
 }

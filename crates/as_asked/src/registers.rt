@@ -7,92 +7,98 @@ ghost use Rattle.as_asked.specs.Tables.{table01, table04, table05, with_dsg_on, 
 ghost use Rattle.as_asked.specs.Balancing.{SetAsAsked, SetAsRead};
 ghost use Rattle.as_asked.specs.Commands.{Changes, Becomes, Resets, shut_down, flag, source_field, counter_fields};
 
+use crate::of_bytes;
 use bq769x0::BQ769x0;
-use bus::Cursor;
-use bus::link::Raw;
-use commands::balancing::SetRead;
+use bus::Bus;
 use commands::control::TemperatureSource;
 use commands::counter::CoulombCounterMode;
 use commands::{balancing, control, counter, ship, status, switches};
+use refusals::Error;
 use units::flags::SysStat;
 
-fn discharge(device: BQ769x0, enable: bool, tape: &[u8], log: &mut [u8], at: Cursor) -> Raw
-    ensures { Shows (Changes table05 (with_dsg_on (flag enable)) device.link 0x05)
-        tape.now log.new at result.at (as_raw result.answer) }
+#[tactic(auto, using(crate::proofs::Commands::discharge_shows))]
+fn discharge(device: &BQ769x0, enable: bool, bus: &mut Bus) -> Result<(), Error>
+    ensures { Shows (Changes table05 (with_dsg_on (flag enable)) device.now.link 0x05) bus (as_raw result) }
 {
-    switches::discharge(device, enable, tape, log, at)
+    of_bytes(bus.tape);
+    switches::discharge(device, enable, bus)
 }
 
-fn charge(device: BQ769x0, enable: bool, tape: &[u8], log: &mut [u8], at: Cursor) -> Raw
-    ensures { Shows (Changes table05 (with_chg_on (flag enable)) device.link 0x05)
-        tape.now log.new at result.at (as_raw result.answer) }
+#[tactic(auto, using(crate::proofs::Commands::charge_shows))]
+fn charge(device: &BQ769x0, enable: bool, bus: &mut Bus) -> Result<(), Error>
+    ensures { Shows (Changes table05 (with_chg_on (flag enable)) device.now.link 0x05) bus (as_raw result) }
 {
-    switches::charge(device, enable, tape, log, at)
+    of_bytes(bus.tape);
+    switches::charge(device, enable, bus)
 }
 
+#[tactic(auto, using(crate::proofs::Commands::mode_shows))]
 fn coulomb_counter_mode(
-    device: BQ769x0,
+    device: &BQ769x0,
     mode: CoulombCounterMode,
-    tape: &[u8],
-    log: &mut [u8],
-    at: Cursor,
-) -> Raw
-    ensures { Shows (Changes table05 (counter_fields mode) device.link 0x05)
-        tape.now log.new at result.at (as_raw result.answer) }
+    bus: &mut Bus,
+) -> Result<(), Error>
+    ensures { Shows (Changes table05 (counter_fields mode) device.now.link 0x05) bus (as_raw result) }
 {
-    counter::coulomb_counter_mode(device, mode, tape, log, at)
+    of_bytes(bus.tape);
+    counter::coulomb_counter_mode(device, mode, bus)
 }
 
-fn enable_adc(device: BQ769x0, enable: bool, tape: &[u8], log: &mut [u8], at: Cursor) -> Raw
-    ensures { Shows (Changes table04 (with_adc_en (flag enable)) device.link 0x04)
-        tape.now log.new at result.at (as_raw result.answer) }
+#[tactic(auto, using(crate::proofs::Commands::adc_shows))]
+fn enable_adc(device: &BQ769x0, enable: bool, bus: &mut Bus) -> Result<(), Error>
+    ensures { Shows (Changes table04 (with_adc_en (flag enable)) device.now.link 0x04) bus (as_raw result) }
 {
-    control::enable_adc(device, enable, tape, log, at)
+    of_bytes(bus.tape);
+    control::enable_adc(device, enable, bus)
 }
 
+#[tactic(auto, using(crate::proofs::Commands::source_shows))]
 fn set_temperature_source(
-    device: BQ769x0,
+    device: &BQ769x0,
     source: TemperatureSource,
-    tape: &[u8],
-    log: &mut [u8],
-    at: Cursor,
-) -> Raw
-    ensures { Shows (Changes table04 (with_temp_sel (source_field source)) device.link 0x04)
-        tape.now log.new at result.at (as_raw result.answer) }
+    bus: &mut Bus,
+) -> Result<(), Error>
+    ensures { Shows (Changes table04 (with_temp_sel (source_field source)) device.now.link 0x04) bus (as_raw result) }
 {
-    control::set_temperature_source(device, source, tape, log, at)
+    of_bytes(bus.tape);
+    control::set_temperature_source(device, source, bus)
 }
 
-fn enable_balancing(device: BQ769x0, cells: u8, tape: &[u8], log: &mut [u8], at: Cursor) -> Raw
-    ensures { Shows (Becomes table01 (table01 cells ∷ []) device.link 0x01)
-        tape.now log.new at result.at (as_raw result.answer) }
+#[tactic(auto, using(crate::proofs::Commands::balancing_shows))]
+fn enable_balancing(device: &BQ769x0, cells: u8, bus: &mut Bus) -> Result<(), Error>
+    ensures { Shows (Becomes table01 (table01 cells ∷ []) device.now.link 0x01) bus (as_raw result) }
 {
-    balancing::enable_balancing(device, cells, tape, log, at)
+    of_bytes(bus.tape);
+    balancing::enable_balancing(device, cells, bus)
 }
 
-fn balance_set(device: BQ769x0, set: u16, limit: u8, tape: &[u8], log: &mut [u8], at: Cursor) -> Raw
-    ensures { Shows (λ seen. SetAsAsked device seen set limit)
-        tape.now log.new at result.at (as_raw result.answer) }
+fn balance_set(device: &BQ769x0, set: u16, limit: u8, bus: &mut Bus) -> Result<(), Error>
+    ensures { Shows (λ seen. SetAsAsked device.now seen set limit) bus (as_raw result) }
 {
-    balancing::balance_set(device, set, limit, tape, log, at)
+    of_bytes(bus.tape);
+    balancing::balance_set(device, set, limit, bus)
 }
 
-fn balance_get(device: BQ769x0, tape: &[u8], log: &mut [u8], at: Cursor) -> SetRead
-    ensures { Shows (SetAsRead device) tape.now log.new at result.at (as_set result.answer) }
+#[tactic(auto, using(crate::proofs::Balancing::get_shows))]
+fn balance_get(device: &BQ769x0, bus: &mut Bus) -> Result<u16, Error>
+    ensures { Shows (SetAsRead device.now) bus (as_set result) }
 {
-    balancing::balance_get(device, tape, log, at)
+    of_bytes(bus.tape);
+    balancing::balance_get(device, bus)
 }
 
-fn sys_stat_reset(device: BQ769x0, flags: SysStat, tape: &[u8], log: &mut [u8], at: Cursor) -> Raw
-    ensures { Shows (Resets flags.bits device.link)
-        tape.now log.new at result.at (as_raw result.answer) }
+#[tactic(auto, using(crate::proofs::Commands::status_shows))]
+fn sys_stat_reset(device: &BQ769x0, flags: SysStat, bus: &mut Bus) -> Result<(), Error>
+    ensures { Shows (Resets flags.bits device.now.link) bus (as_raw result) }
 {
-    status::sys_stat_reset(device, flags, tape, log, at)
+    of_bytes(bus.tape);
+    status::sys_stat_reset(device, flags, bus)
 }
 
-fn ship_enter(device: BQ769x0, tape: &[u8], log: &mut [u8], at: Cursor) -> Raw
-    ensures { Shows (Becomes table04 shut_down device.link 0x04)
-        tape.now log.new at result.at (as_raw result.answer) }
+#[tactic(auto, using(crate::proofs::Commands::ship_shows))]
+fn ship_enter(device: &BQ769x0, bus: &mut Bus) -> Result<(), Error>
+    ensures { Shows (Becomes table04 shut_down device.now.link 0x04) bus (as_raw result) }
 {
-    ship::ship_enter(device, tape, log, at)
+    of_bytes(bus.tape);
+    ship::ship_enter(device, bus)
 }
