@@ -1,48 +1,46 @@
 -- What stands at a place of the input, and how the search for the field that ends the calls goes on from there.
 -- Assumes nothing.
 use mathlib.Core.Path.{◌≡◌, refl, sym, ap, subst, ◌∙◌}
-use mathlib.Core.Bool.{Bool, true, false, cond, ◌&&◌}
+use mathlib.Core.Bool.{true, false, ◌&&◌}
 use mathlib.Core.List.{List, []}
 use mathlib.Core.Option.{Option, none, some}
 use Prim.Native.Nat.{ℕ, zero, suc, ◌+◌, ◌-◌, ◌≤◌, ◌<◌}
-use native.Mathlib.Nat.{add-zero}
 use native.Mathlib.Omega.{arith}
 use lib.ListN.{length, take, drop, length-drop}
-use lib.Seq.{get_or-drop, drop-drop, length-take-le}
+use lib.Seq.{drop-drop, length-take-le}
 use lib.Dec.{eqb}
-use Rattle.numbers.specs.Numbers.{word}
+use Rattle.std.specs.Prelude.{slice_range}
+use Rattle.std.proofs.lemmas.List.{take_all}
 use Rattle.fields.specs.Fields.{unfield}
 use Rattle.fields.specs.Fields as read
 use Rattle.fields.proofs.Fields.{said, cut_short, all_there, Lies, lies}
-use Rattle.refusals.specs.Refusal.{Answer, Refusal, value, refused, no}
+use Rattle.refusals.specs.Refusal.{Refusal, value, refused, no}
 use Rattle.refusals.proofs.Values.{refused_not, same_value}
-use Rattle.job.specs.Jobs.{byte_at, device_of, device_for}
-use Rattle.job.specs.Inside.{says_device}
+use Rattle.job.specs.Jobs.{byte_at, device_for}
 use Rattle.job.specs.declared.Device.{Device}
-use Rattle.job.proofs.ByTests.{device_by_tests}
 use Rattle.calls.specs.Shapes.{lawful}
-use Rattle.calls.specs.Heads.{placed, found_at, field_at, is_end, end_by, end_from, heading_of}
+use Rattle.calls.specs.Heads.{placed, found_at, field_at, is_end, end_from, heading_of}
 use Rattle.calls.specs.declared.Field.{Field}
 
--- ---- the field at a place, by the input's own bytes
-module _ (at : ℕ) (input : List ℕ) where
-  abbrev length_at : ℕ
-  length_at = word (byte_at input (at + 1)) (byte_at input (at + 2))
-
-  said_is : said (drop at input) ≡ length_at
-  said_is = rw (get_or-drop at input 1 0, get_or-drop at input 2 0)
-
-  pub cut : length input < at + 3 + length_at → field_at at (drop at input) ≡ refused (no 15 [])
+-- ---- the field that bytes from a place on begin with
+module _ (at : ℕ) (bytes : List ℕ) where
+  pub cut : length bytes < 3 + said bytes → field_at at bytes ≡ refused (no 15 [])
   unfolding field_at
-  cut h = ap (found_at at) (cut_short (drop at input) (omega (arith, length-drop at input, said_is)))
+  cut h = ap (found_at at) (cut_short bytes h)
 
-  pub whole : at + 3 + length_at ≤ length input
-      → field_at at (drop at input) ≡ value (record { tag = byte_at input at; start = at + 3; len = length_at })
+  pub whole : 3 + said bytes ≤ length bytes
+      → field_at at bytes ≡ value (record { tag = byte_at bytes 0; start = at + 3; len = said bytes })
   unfolding field_at
   whole h =
-      let k : 3 + said (drop at input) ≤ length (drop at input) = omega (arith, length-drop at input, said_is) in
-      let size = length-take-le (said (drop at input)) (drop 3 (drop at input)) (omega (arith, length-drop 3 (drop at input))) in
-      ap (found_at at) (all_there (drop at input) k) ∙ rw (size, said_is, get_or-drop at input 0 0, add-zero at)
+      let size = length-take-le (said bytes) (drop 3 bytes) (omega (arith, length-drop 3 bytes)) in
+      ap (found_at at) (all_there bytes h) ∙ rw size
+
+-- of the input's bytes from a place on, as the code takes them
+pub from_there : (at : ℕ) (input bytes : List ℕ) → bytes ≡ slice_range input at (length input) → bytes ≡ drop at input
+from_there at input bytes e = e ∙ take_all (length input - at) (drop at input) (omega (arith, length-drop at input))
+
+pub cut_there : (at : ℕ) (input : List ℕ) → length input < at + 3 → field_at at (drop at input) ≡ refused (no 15 [])
+cut_there at input h = cut at (drop at input) (omega (arith, length-drop at input))
 
 -- ---- what an answer tells
 module _ (at : ℕ) (bytes : List ℕ) where
@@ -89,50 +87,7 @@ module _ (at : ℕ) (bytes : List ℕ) where
     neither zero h e c = absurd (omega arith)
     neither (suc n) h e c = rw (is, e, c)
 
-pub past_the_end : (fields at : ℕ) (input : List ℕ) → length input ≤ at
-    → end_from fields at (drop at input) ≡ refused (no 15 [])
-past_the_end fields at input h =
-    none_there at (drop at input) fields (cut_short (drop at input) (omega (arith, length-drop at input)))
-
--- ---- the only refusal is 15
-only_by : (r : Refusal) (next : ℕ → List ℕ → Answer Field) (at : ℕ)
-    → ((n : ℕ) (rest : List ℕ) → next n rest ≡ refused r → next n rest ≡ refused (no 15 []))
-    → (o : Option read.Field) → end_by next at o ≡ refused r → end_by next at o ≡ refused (no 15 [])
-only_by r next at only none q = refl
-only_by r next at only (some g) q = by (is_end g) (lawful g.tag g.value) q
-  where
-    by : (b c : Bool)
-        → cond b (value (placed at g)) (cond c (next (at + (3 + length g.value)) g.rest) (refused (no 15 []))) ≡ refused r
-        → cond b (value (placed at g)) (cond c (next (at + (3 + length g.value)) g.rest) (refused (no 15 []))) ≡ refused (no 15 [])
-    by true c q = refused_not (sym q)
-    by false true q = only _ _ q
-    by false false q = refl
-
-only_15 : (fields at : ℕ) (bytes : List ℕ) (r : Refusal) → end_from fields at bytes ≡ refused r
-    → end_from fields at bytes ≡ refused (no 15 [])
-unfolding end_from
-only_15 zero at bytes r e = refl
-only_15 (suc n) at bytes r e = only_by r (end_from n) at (λ m rest. only_15 n m rest r) (unfield bytes) e
-
-device_only_by : (b : Bool) (d : Device) (r : Refusal)
-    → cond b (value d) (refused (no 15 [])) ≡ refused r
-    → cond b (value d) (refused (no 15 [])) ≡ refused (no 15 [])
-device_only_by true d r e = refused_not (sym e)
-device_only_by false d r e = refl
-
-pub no_device_lem : (bytes : List ℕ) (r : Refusal) → device_for bytes ≡ refused r → heading_of bytes ≡ refused (no 15 [])
-unfolding heading_of
-no_device_lem bytes r e =
-    let t = device_by_tests bytes in
-    rw (t ∙ device_only_by (says_device bytes) (device_of bytes) r (sym t ∙ e))
-
-pub no_end : (bytes : List ℕ) (d : Device) (r : Refusal)
-    → device_for bytes ≡ value d
-    → end_from (length bytes) 7 (drop 7 bytes) ≡ refused r
-    → heading_of bytes ≡ refused (no 15 [])
-unfolding heading_of
-no_end bytes d r e q = rw (e, only_15 (length bytes) 7 (drop 7 bytes) r q)
-
+-- ---- the head
 pub both_read : (bytes : List ℕ) (d : Device) (f : Field)
     → device_for bytes ≡ value d
     → end_from (length bytes) 7 (drop 7 bytes) ≡ value f
@@ -187,28 +142,32 @@ module _ (input : List ℕ) (at : ℕ) (f : Field) (given : field_at at (drop at
       by_read (λ f. f.start + f.len ≤ length input)
       (λ g is. omega (arith, (its input at g is).there, (its input at g is).long, length-drop at input))
 
-  pub found_end : (fields : ℕ) → 0 < fields → eqb f.tag 0x3F && eqb f.len 0 ≡ true
+  -- so that a field can still stand there
+  more : (fields : ℕ) → length input ≤ at + fields → 0 < fields
+  more fields h = omega (arith, h, starts, inside)
+
+  pub found_end : (fields : ℕ) → length input ≤ at + fields → eqb f.tag 0x3F && eqb f.len 0 ≡ true
       → end_from fields at (drop at input) ≡ value f
   found_end fields h =
       by_read (λ f. eqb f.tag 0x3F && eqb f.len 0 ≡ true → end_from fields at (drop at input) ≡ value f)
-      (λ g is. ends at (drop at input) g is fields h)
+      (λ g is. ends at (drop at input) g is fields (more fields h))
 
   -- its value, as the code lends it
   abbrev lent_by : Field → List ℕ
   lent_by f = take (f.start + f.len - f.start) (drop f.start input)
 
-  pub found_call : (fields : ℕ) → 0 < fields → eqb f.tag 0x3F && eqb f.len 0 ≡ false
+  pub found_call : (fields : ℕ) → length input ≤ at + fields → eqb f.tag 0x3F && eqb f.len 0 ≡ false
       → lawful f.tag (lent_by f) ≡ true
       → end_from fields at (drop at input) ≡ end_from (fields - 1) (f.start + f.len) (drop (f.start + f.len) input)
   found_call fields h =
       by_read (λ f. eqb f.tag 0x3F && eqb f.len 0 ≡ false → lawful f.tag (lent_by f) ≡ true
       → end_from fields at (drop at input) ≡ end_from (fields - 1) (f.start + f.len) (drop (f.start + f.len) input))
-      (λ g is. call_on input at g is fields h)
+      (λ g is. call_on input at g is fields (more fields h))
 
-  pub found_other : (fields : ℕ) → 0 < fields → eqb f.tag 0x3F && eqb f.len 0 ≡ false
+  pub found_other : (fields : ℕ) → length input ≤ at + fields → eqb f.tag 0x3F && eqb f.len 0 ≡ false
       → lawful f.tag (lent_by f) ≡ false
       → end_from fields at (drop at input) ≡ refused (no 15 [])
   found_other fields h =
       by_read (λ f. eqb f.tag 0x3F && eqb f.len 0 ≡ false → lawful f.tag (lent_by f) ≡ false
       → end_from fields at (drop at input) ≡ refused (no 15 []))
-      (λ g is. other_off input at g is fields h)
+      (λ g is. other_off input at g is fields (more fields h))

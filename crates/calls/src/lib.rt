@@ -67,6 +67,7 @@ const SHAPES: [Shape; 24] = [
     Shape::Empty, // 38 spread
 ];
 
+#[tactic(auto, using(crate::proofs::Rows::before))]
 fn shape_of(tag: u8) -> Option<Shape>
     ensures { result ≡ shape_of tag }
 {
@@ -115,6 +116,7 @@ pub fn is_lawful(tag: u8, value: &[u8]) -> bool
 }
 
 // The field at `at`, or 15 where it is cut short.
+#[tactic(auto, using(crate::proofs::Steps::cut_there))]
 pub fn field_at(input: &[u8], at: usize) -> Result<Field, Error>
     ensures { as_field result ≡ field_at at (drop at input.now) }
 {
@@ -137,8 +139,7 @@ fn end_of_calls(input: &[u8]) -> Result<Field, Error>
     ensures { as_field result ≡ end_from (length input.now) 7 (drop 7 input.now) }
 {
     let mut at = CALLS_AT;
-    loop {
-        let field = field_at(input, at)?;
+    while let Ok(field) = field_at(input, at) {
         if (field.tag == END) & (field.len == 0) {
             return Ok(field);
         }
@@ -148,9 +149,11 @@ fn end_of_calls(input: &[u8]) -> Result<Field, Error>
         }
         at = end;
     }
+    Err(Error::BadTape)
 }
 
 // The head that bytes begin with, or 15.
+#[tactic(auto, unfolding(crate::specs::Heads::heading_of))]
 pub fn head(input: &[u8]) -> Result<Heading, Error>
     ensures { as_head result ≡ heading_of input.now }
 {

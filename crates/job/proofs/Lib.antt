@@ -3,6 +3,5 @@ pub mod ByTests
 pub mod Places
 pub mod Agree
 pub mod Codes
-mod Stands
 pub mod Example
 pub mod Tested

@@ -1,18 +1,13 @@
--- What bytes that are a job's have been tested for.
+-- What a configuration's bytes have been tested for.
 -- Assumes nothing.
 use mathlib.Core.Path.{◌≡◌}
 use mathlib.Core.Bool.{true, and-eq-true_iff}
 use mathlib.Core.List.{List}
-use Prim.Native.Nat.{ℕ, ◌+◌, ◌≤◌, ◌<◌}
+use Prim.Native.Nat.{ℕ, ◌+◌, ◌<◌}
 use lib.ListN.{length}
-use borrow.Author.Tests.{ltb-true, leb-true}
+use borrow.Author.Tests.{ltb-true}
 use Rattle.protection.specs.Delays.{scd_delays, ocd_delays, uv_delays, ov_delays}
 use Rattle.job.specs.Jobs.{byte_at, codes_at}
-use Rattle.job.specs.Inside.{says_device}
-
-pub device_tested : (bytes : List ℕ) → says_device bytes ≡ true → 7 ≤ length bytes
-unfolding says_device
-device_tested bytes e = leb-true _ _ ((and-eq-true_iff _ _).0 ((and-eq-true_iff _ _).0 e).0).0
 
 -- each code of a configuration from byte i on in its list
 abbrev pub ListedAt : List ℕ → ℕ → Type 0

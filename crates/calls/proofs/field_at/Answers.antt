@@ -1,18 +1,19 @@
--- `calls::field_at` meets its contract. Assumes nothing.
-use Rattle.std.proofs.Common.{sym, arith}
-use Rattle.calls.proofs.Steps.{cut, whole}
+-- `calls::field_at` meets its contract: by the bytes that it takes from `at` on. Assumes nothing.
+use Rattle.std.proofs.Common.{◌-◌, drop, length, sym, arith, length-drop, length-take}
+use Rattle.calls.proofs.Steps.{from_there, cut, whole}
 use Rattle.calls.proofs.field_at.Goals as goal
 
-pub returns-then-input-at : goal.returns-then-input-at
-returns-then-input-at c = sym (cut c.args.at c.args.input.now (omega arith))
-
-pub returns-then-input-at-lt3 : goal.returns-then-input-at-lt3
-returns-then-input-at-lt3 c = sym (cut c.args.at c.args.input.now (omega arith))
-
-pub returns-then-input-at-2 : goal.returns-then-input-at-2
-returns-then-input-at-2 c = sym (cut c.args.at c.args.input.now (omega (arith, c.be_u16-len.ensures)))
+pub returns-then-rest-len : goal.returns-then-rest-len
+returns-then-rest-len c =
+    let bytes = c.in-Some-len3-up.field-0.now in
+    let is = from_there c.args.at c.args.input.now bytes c.in-Some-len3-up.ensures.lookup.0.2 in
+    let len = c.be_u16-len.ensures in
+    rw (sym is) (sym (cut _ bytes (omega (arith, len, length-drop 3 bytes, length-take (length bytes - 3) (drop 3 bytes)))))
 
 pub returns : goal.returns
 returns c =
+    let bytes = c.in-Some-len3-up.field-0.now in
+    let is = from_there c.args.at c.args.input.now bytes c.in-Some-len3-up.ensures.lookup.0.2 in
     let len = c.be_u16-len.ensures in
-    rw (len) (sym (whole c.args.at c.args.input.now (omega (arith, len))))
+    rw (len, sym is)
+    (sym (whole _ bytes (omega (arith, len, length-drop 3 bytes, length-take (length bytes - 3) (drop 3 bytes)))))
