@@ -1,9 +1,9 @@
 -- The reading's millivolts are stored as a list of as many as there are cells.
 -- Assumes nothing.
-use Rattle.std.proofs.Common.{◌≡◌, length, true, arith, rules}
+use Rattle.std.proofs.Common.{◌≡◌, ◌∙◌, length, true, arith, rules}
 use Rattle.bus.specs.Programs.{proceed, on_tape}
 use Rattle.bus.proofs.Programs.{on_tape_bind}
-use Rattle.layout.specs.Cells.{has_room}
+use Rattle.layout.specs.Cells.{has_room, stored}
 use Rattle.layout.proofs.Room.{stored_first}
 use Rattle.firmware.specs.JobCells.{read_cells}
 use Rattle.setup.proofs.Seq.{stepped}
@@ -12,6 +12,8 @@ use Rattle.firmware.proofs.crate_list.read_cells.Goals as goal
 pub returns : goal.returns
 unfolding read_cells proceed on_tape
 returns c =
-    let room : has_room c.args.device.now.cell_count (length c.args.list.now) ≡ true = grind arith in
+    let n = c.args.device.now.cell_count in
+    let room : has_room n (length c.args.list.now) ≡ true = grind arith in
     let all : length c.cell_voltages.new.list ≡ 15 = search rules in
-    grind (arith, stepped, on_tape_bind, stored_first _ _ c.args.list.now all room)
+    let stored_is : c.put_cells.new.list ≡ stored n c.cell_voltages.new.list c.args.list.now = c.put_cells.ensures ∙ stored_first _ _ _ all room in
+    grind (arith, stepped, on_tape_bind, stored_is)
