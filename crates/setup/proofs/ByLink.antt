@@ -39,7 +39,8 @@ calibrated_by d (value adc) = leaves (value tt) (with_calibration d adc)
 calibrated_by d (refused r) = leaving d r
 
 pub calibrate_tells : (d : BQ769x0) (b : Bus)
-    → on_tape (calibrate d) b ≡ ends (calibrated_by d (on_tape (calibration_read d.link) b).answer) (on_tape (calibration_read d.link) b).bus
+    → let read = on_tape (calibration_read d.link) b in
+    on_tape (calibrate d) b ≡ ends (calibrated_by d read.answer) read.bus
 unfolding calibrate calibration_read on_tape
 calibrate_tells d =
     tells (calibrated_by d) _ _
@@ -61,7 +62,8 @@ last d values p b = stepped p (leaving d) _ b ∙ by (on_tape p b).answer (on_ta
     by (refused r) b = refl
 
 pub start_counter_tells : (d : BQ769x0) (values : Values) (b : Bus)
-    → on_tape (start_counter d values) b ≡ ends (counted_by d values (on_tape (counter_started d.link) b).answer) (on_tape (counter_started d.link) b).bus
+    → let started = on_tape (counter_started d.link) b in
+    on_tape (start_counter d values) b ≡ ends (counted_by d values started.answer) started.bus
 unfolding start_counter counter_started
 start_counter_tells d values =
     tells (counted_by d values) _ _ (λ byte. last d values _) (read_bytes d.link 0x05 1)

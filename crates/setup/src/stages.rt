@@ -15,7 +15,7 @@ use plan::{CalculatedValues, Config, Steps, six_bytes};
 use refusals::Error;
 
 // The six bytes, and the counter after them.
-#[tactic(auto, using(crate::proofs::Seq::stepped, crate::proofs::ByLink::start_counter_tells), unfolding(procedure::specs::Init::protect, bus::specs::Programs::proceed, bus::specs::Programs::on_tape))]
+#[tactic(auto, using(crate::proofs::Seq::stepped), unfolding(procedure::specs::Init::protect, bus::specs::Programs::proceed, bus::specs::Programs::on_tape))]
 pub(crate) fn protect(
     head: &mut Head,
     config: Config,
