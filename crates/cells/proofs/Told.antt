@@ -1,14 +1,14 @@
 -- What both calls for the cells do, by the reading taken into the record: they tell of it, and where it is not taken, what they leave.
 -- Assumes nothing.
 use mathlib.Core.Path.{◌≡◌, refl, sym, ap, ◌∙◌}
-use mathlib.Core.Bool.{Bool, true, false}
+use mathlib.Core.Bool.{Bool, true, false, not}
 use Prim.Native.Nat.{ℕ, ◌≤◌}
 use native.Mathlib.Omega.{arith}
 use lib.IntN.{ℤ}
-use mathlib.Core.List.{List, []}
-use borrow.Author.Tests.{ltb-false}
+use mathlib.Core.List.{List}
+use borrow.Author.Tests.{ltb-false, not-false}
 use lib.Dec.{ltb}
-use Rattle.refusals.specs.Refusal.{Refusal, Answer, value, refused, no, nine}
+use Rattle.refusals.specs.Refusal.{Refusal, Answer, value, refused, refused_if, nine}
 use Rattle.bus.specs.Transfers.{Bus}
 use Rattle.bus.specs.Programs.{ret, Ran, ends, on_tape, proceed, ◌>>=◌}
 use Rattle.bus.specs.Raw.{Done}
@@ -26,14 +26,16 @@ use Rattle.cells.specs.Inside.{tests, reads}
 abbrev Passed : BQ769x0 → ℕ → Type 0
 Passed d room = (is_sound d ≡ true) × (ready d room ≡ value tt) × (d.cell_count ≤ room)
 
+once_passed : (test : Bool) (n : ℕ) (rest : Answer Done) → value tt ≡ refused_if test n rest → (test ≡ false) × (rest ≡ value tt)
+once_passed false n rest e = (refl, sym e)
+once_passed true n rest e = absurd (let z : ◌≡◌ {A = ℕ} 0 1 = cc in omega arith)
+
 pub passed : (d : BQ769x0) (room : ℕ) → value tt ≡ tests d room → Passed d room
-passed d room e = by (is_sound d) d.init_complete (ltb room d.cell_count) refl refl refl
-  where
-    by : (sound mark cramped : Bool) → is_sound d ≡ sound → d.init_complete ≡ mark → ltb room d.cell_count ≡ cramped → Passed d room
-    by true true false p q r = (p, rw (q, r), ltb-false room d.cell_count r)
-    by true true true p q r = let z : ◌≡◌ {A = Answer Done} (value tt) (refused (no 19 [])) = rw (p, q, r) at e in absurd (let z : ◌≡◌ {A = ℕ} 0 1 = cc in omega arith)
-    by true false cramped p q r = let z : ◌≡◌ {A = Answer Done} (value tt) (refused (no 4 [])) = rw (p, q) at e in absurd (let z : ◌≡◌ {A = ℕ} 0 1 = cc in omega arith)
-    by false mark cramped p q r = let z : ◌≡◌ {A = Answer Done} (value tt) (refused nine) = rw p at e in absurd (let z : ◌≡◌ {A = ℕ} 0 1 = cc in omega arith)
+passed d room e =
+    let sound = once_passed (not (is_sound d)) 9 (ready d room) e in
+    let marked = once_passed (not d.init_complete) 4 _ (sym sound.1) in
+    let roomy = once_passed (ltb room d.cell_count) 19 _ (sym marked.1) in
+    (not-false _ sound.0, sound.1, ltb-false room d.cell_count roomy.0)
 
 module _ {A : Type 0} (d : BQ769x0) (room : ℕ) (leave : Refusal → A) (give : List ℤ → A) (b : Bus) where
   -- ---- refused by the tests

@@ -22,6 +22,7 @@ use Rattle.procedure.proofs.Fits.{stored_first}
 use Rattle.procedure.specs.Wired.{Shown, shown, unshown, showing, read_wired, wired}
 use Rattle.cells.specs.Inside.{tests, reads}
 use Rattle.cells.proofs.Told.{passed, tested_off, tested_on, reading_tells}
+use Rattle.cells.proofs.wired.wired.Goals.{After-fitted-fitted}
 use Rattle.cells.proofs.wired.wired.Goals as goal
 
 module _ (d : BQ769x0) (inputs : List ℕ) (list : List ℤ) (b : Bus) where
@@ -99,28 +100,27 @@ returns c =
     c.fill.ensures ∙ ap (λ (l : List ℤ). l over list) (filled a.device.now inputs list (held a.bus.now) ready left c.read.ensures.pack rows) in
     (rw (copied, filled) told, c.read.ensures.read.1)
 
+-- the pack's inputs fit in all lists
+all_fit : (c : After-fitted-fitted) → let row = length c.fitted-fitted.result.now in
+    (row ≤ 15) × (row ≤ length c.args.inputs.now) × (row ≤ length c.args.list.now)
+all_fit c =
+    fits c.args.device.now c.args.inputs.now c.args.list.now (held c.args.bus.now) (rw c.min.ensures at c.in_ok-test.ensures)
+    c.read.new.device c.read.ensures.pack c.fitted-fitted.ensures
+
 pub slice_bounds-copy_from_slice-end : goal.slice_bounds-copy_from_slice-end
-slice_bounds-copy_from_slice-end c =
-    (fits c.args.device.now c.args.inputs.now c.args.list.now (held c.args.bus.now) (rw c.min.ensures at c.in_ok-test.ensures)
-    c.read.new.device c.read.ensures.pack c.fitted-fitted.ensures).1
+slice_bounds-copy_from_slice-end c = (all_fit (goal.at.slice_bounds-copy_from_slice-end c).After-fitted-fitted).1
 
 pub slice_bounds-copy_from_slice-end-2 : goal.slice_bounds-copy_from_slice-end-2
 slice_bounds-copy_from_slice-end-2 c =
-    sym (length-take-le _ c.args.inputs.now (fits c.args.device.now c.args.inputs.now c.args.list.now (held c.args.bus.now) (rw c.min.ensures at c.in_ok-test.ensures)
-    c.read.new.device c.read.ensures.pack c.fitted-fitted.ensures).1)
+    sym (length-take-le _ c.args.inputs.now (all_fit (goal.at.slice_bounds-copy_from_slice-end-2 c).After-fitted-fitted).1)
 
 pub copy_from_slice-requires : goal.copy_from_slice-requires
-copy_from_slice-requires c =
-    length-take-le _ c.args.inputs.now (fits c.args.device.now c.args.inputs.now c.args.list.now (held c.args.bus.now) (rw c.min.ensures at c.in_ok-test.ensures)
-    c.read.new.device c.read.ensures.pack c.fitted-fitted.ensures).1
+copy_from_slice-requires c = length-take-le _ c.args.inputs.now (all_fit (goal.at.copy_from_slice-requires c).After-fitted-fitted).1
 
 pub shared_ref_as_front-fill : goal.shared_ref_as_front-fill
-shared_ref_as_front-fill c =
-    (fits c.args.device.now c.args.inputs.now c.args.list.now (held c.args.bus.now) (rw c.min.ensures at c.in_ok-test.ensures)
-    c.read.new.device c.read.ensures.pack c.fitted-fitted.ensures).0
+shared_ref_as_front-fill c = (all_fit (goal.at.shared_ref_as_front-fill c).After-fitted-fitted).0
 
 pub fill-requires : goal.fill-requires
 fill-requires c =
-    let ok = (fits c.args.device.now c.args.inputs.now c.args.list.now (held c.args.bus.now) (rw c.min.ensures at c.in_ok-test.ensures)
-    c.read.new.device c.read.ensures.pack c.fitted-fitted.ensures).2 in
+    let ok = (all_fit (goal.at.fill-requires c).After-fitted-fitted).2 in
     search (rules, ok)
