@@ -15,5 +15,6 @@ returns c =
     let n = c.args.device.now.cell_count in
     let room : has_room n (length c.args.list.now) ≡ true = grind arith in
     let all : length c.cell_voltages.new.list ≡ 15 = search rules in
-    let stored_is : c.put_cells.new.list ≡ stored n c.cell_voltages.new.list c.args.list.now = c.put_cells.ensures ∙ stored_first n c.cell_voltages.new.list c.args.list.now all room in
+    let stored_is : c.put_cells.new.list ≡ stored n c.cell_voltages.new.list c.args.list.now =
+    c.put_cells.ensures ∙ stored_first n c.cell_voltages.new.list c.args.list.now all room in
     grind (arith, stepped, on_tape_bind, stored_is)
