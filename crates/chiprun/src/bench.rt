@@ -1,119 +1,73 @@
 // The calls on the model chip, in passes over all of them. The tape of a pass has the chip's answers so far and a fault behind them: the transfer that
 // meets it is the last in the log. The chip's answer takes the fault's place, until a pass does not come to the fault.
-use call_text::state::State;
+use bq769x0::BQ769x0;
+use bus::{Bus, Cursor};
+use call_text::Prints;
 use chip::Chip;
-use chip::answer::Cut;
 use std::io;
 
 // The least field of a tape has three bytes.
 pub(crate) const MOST: usize = 10_922;
 
-// The chip, how far its answers fill the tape and their transfers the log, and whether all are given. Behind the answers the tape is 00.
+// The job of the calls, and what they are made on: a record, and a chip; of each transfer, after how many bytes it is cut, if it is.
 #[derive(Drop)]
-struct Bench {
-    chip: Chip,
-    tape_end: usize,
-    log_end: usize,
-    is_done: bool,
+pub(crate) struct Bench<'a> {
+    pub job: &'a [u8],
+    pub device: BQ769x0,
+    pub chip: Chip,
+    pub cuts: &'a [Option<usize>],
 }
 
-impl Bench {
-    fn done(self) -> Bench {
-        let mut out = self;
-        out.is_done = true;
-        out
-    }
-
-    // One more transfer is answered, where one is wanted.
-    fn pass(
+impl Bench<'_> {
+    // The chip's answers to the calls, on a tape of 00; how far they fill it.
+    pub(crate) fn run(
         self,
-        rt: &HostRuntime,
-        job: &[u8],
-        state: State,
-        cut: Cut,
+        rt: &(impl Print + Eprint),
         tape: &mut [u8],
         log: &mut [u8],
-    ) -> io::Result<Bench> {
-        let end = self.tape_end;
-        if self.is_done {
-            return Ok(self);
+    ) -> io::Result<usize> {
+        let mut chip = self.chip;
+        let mut filled = Cursor { tape: 0, log: 0 };
+        for cut in self.cuts {
+            let Some(to) = self.pass(rt, filled, tape, log)? else {
+                break;
+            };
+            let Some(field) = log.get(filled.log..to.log) else {
+                break;
+            };
+            let end = chip.answer(field, *cut, tape, filled.tape);
+            // Job and tape are no longer than callrun's input.
+            if end <= filled.tape || tape.len() < end || tape.len() - end < self.job.len() {
+                break;
+            }
+            filled = Cursor {
+                tape: end,
+                log: to.log,
+            };
         }
-        if tape.len() <= end {
-            return Ok(self.done());
-        }
-        tape[end] = 0x02;
-        let left = call_text::in_turn(rt, job, tape, state, log)?;
-        let at = left.at;
-        if at.tape <= end {
-            return Ok(self.done());
-        }
-        Ok(self.answered(log, at.log, cut, tape, job.len()))
+        Ok(filled.tape)
     }
 
-    // The field that was added to the log is answered, where job and tape then are no longer than callrun's input.
-    fn answered(
-        self,
-        log: &[u8],
-        log_end: usize,
-        cut: Cut,
+    // Where the calls end on tape and log, where they come to the fault behind what is filled.
+    fn pass(
+        &self,
+        rt: &(impl Print + Eprint),
+        filled: Cursor,
         tape: &mut [u8],
-        job_len: usize,
-    ) -> Bench {
-        let chip = self.chip;
-        let from = self.log_end;
-        if log_end < from {
-            return self.done();
-        }
-        if log.len() < log_end {
-            return self.done();
-        }
-        let given = chip.answer(&log[from..log_end], cut, tape, self.tape_end);
-        let chip = given.chip;
-        let tape_end = given.end;
-        if tape.len() < tape_end {
-            return self.done();
-        }
-        if (tape_end <= self.tape_end) | (tape.len() - tape_end < job_len) {
-            return self.done();
-        }
-        Bench {
-            chip,
-            tape_end,
-            log_end,
-            is_done: false,
-        }
+        log: &mut [u8],
+    ) -> io::Result<Option<Cursor>> {
+        let Some(fault) = tape.get_mut(filled.tape) else {
+            return Ok(None);
+        };
+        *fault = 0x02;
+        let mut device = self.device;
+        let mut bus = Bus::new(tape, log);
+        call_text::in_turn(rt, self.job, Prints::Nothing, &mut device, &mut bus)?;
+        let to = bus.at;
+        Ok(if filled.tape < to.tape {
+            Some(to)
+        } else {
+            None
+        })
     }
-}
-
-fn cut_of(cuts: &[usize], transfer: usize) -> Cut {
-    if cuts.len() <= transfer {
-        return Cut::Whole;
-    }
-    let cut = cuts[transfer];
-    if cut == 0 {
-        return Cut::Whole;
-    }
-    Cut::After(cut - 1)
-}
-
-// The chip's answers to the calls of a job, on a tape of 00; how far they fill it.
-pub(crate) fn run(
-    rt: &HostRuntime,
-    job: &[u8],
-    state: State,
-    chip: Chip,
-    cuts: &[usize],
-    tape: &mut [u8],
-    log: &mut [u8],
-) -> io::Result<usize> {
-    let mut bench = Bench {
-        chip,
-        tape_end: 0,
-        log_end: 0,
-        is_done: false,
-    };
-    for k in 0..MOST {
-        bench = bench.pass(rt, job, state, cut_of(cuts, k), tape, log)?;
-    }
-    Ok(bench.tape_end)
 }

@@ -1,138 +1,51 @@
 // What stands between field 20 and the calls: field 1C, a register and the bytes from it on, and field 1B, a transfer from 1 and how many bytes behind
 // the address byte go through, each any number of times. A later one goes over an earlier.
-ghost use Rattle.std.specs.Prelude.{◌≡◌, ◌≤◌};
+ghost use Rattle.std.specs.Prelude.{◌≤◌, length, IfOk};
 
-use calls::FieldAnswer;
 use chip::Chip;
-use job::Device;
 
 const CUT: u8 = 0x1B;
 
 const REGISTERS: u8 = 0x1C;
 
-// Whether all of it fits; the chip, and where the calls begin.
-#[derive(Drop)]
-pub(crate) struct Front {
-    pub fits: bool,
-    pub chip: Chip,
-    pub calls_at: usize,
-}
-
-// Of each transfer, from 1: 0 where it goes whole, else 1 and the bytes that go through.
-pub(crate) fn read(input: &[u8], chip: Chip, cuts: &mut [usize]) -> Front {
-    let mut chip = chip;
+// Reads it into chip and cuts: where the calls begin, or else the field that does not fit.
+pub(crate) fn read(
+    input: &[u8],
+    chip: &mut Chip,
+    cuts: &mut [Option<usize>],
+) -> Result<usize, usize>
+    ensures { IfOk result (λ at. (7 ≤ at) × (at ≤ length input.now)) }
+{
     let mut at = calls::CALLS_AT;
-    while at < input.len() {
-        let found = calls::field_at(input, at);
-        let FieldAnswer::Found(field) = found else {
-            return unfit(chip, at);
-        };
-        let tag = field.tag;
-        let start = field.start;
-        let len = field.len;
-        if (tag != REGISTERS) & (tag != CUT) {
-            return Front {
-                fits: true,
-                chip,
-                calls_at: at,
-            };
+    while let Ok(field) = calls::field_at(input, at) {
+        if field.tag != REGISTERS && field.tag != CUT {
+            return Ok(at);
         }
-        let end = start + len;
-        let value = &input[start..end];
-        if !fits(tag, value) {
-            return unfit(chip, at);
-        }
-        chip = taken(tag, value, chip, cuts);
+        let end = field.start + field.len;
+        take(field.tag, &input[field.start..end], chip, cuts).ok_or(at)?;
         at = end;
     }
-    unfit(chip, at)
+    Err(at)
 }
 
-fn unfit(chip: Chip, at: usize) -> Front {
-    Front {
-        fits: false,
-        chip,
-        calls_at: at,
-    }
-}
-
-fn size(n: u8) -> usize
-    ensures { result ≤ 255 }
-{
-    n as usize
-}
-
-// At least one byte, and none past register FF; a transfer from 1.
-fn fits(tag: u8, value: &[u8]) -> bool {
-    let n = value.len();
-    if tag == CUT {
-        if n != 4 {
-            return false;
+// None where the value does not fit.
+fn take(tag: u8, value: &[u8], chip: &mut Chip, cuts: &mut [Option<usize>]) -> Option<()> {
+    match (tag, value) {
+        // From a register on, up to FF.
+        (REGISTERS, [first, bytes @ ..]) if !bytes.is_empty() => {
+            let from = *first as usize;
+            chip.regs
+                .get_mut(from..from + bytes.len())?
+                .copy_from_slice(bytes);
         }
-        return numbers::be_u16(value[0], value[1]) != 0;
-    }
-    if n < 2 {
-        return false;
-    }
-    n <= 257 - size(value[0])
-}
-
-fn taken(tag: u8, value: &[u8], chip: Chip, cuts: &mut [usize]) -> Chip {
-    if tag == CUT {
-        store_cut(value, cuts);
-        return chip;
-    }
-    if value.len() == 0 {
-        return chip;
-    }
-    with_registers(chip, value[0], &value[1..])
-}
-
-// Those from a register on, up to FF.
-fn with_registers(chip: Chip, reg: u8, bytes: &[u8]) -> Chip {
-    let mut out = chip;
-    for i in 0..bytes.len() {
-        let at = reg as usize + i;
-        if 255 < at {
-            return out;
+        // A transfer that no tape has room for is none.
+        (CUT, &[high, low, more, less]) => {
+            let transfer = numbers::be_u16(high, low) as usize;
+            if let Some(cut) = cuts.get_mut(transfer.checked_sub(1)?) {
+                *cut = Some(numbers::be_u16(more, less) as usize);
+            }
         }
-        out = out.set(at as u8, bytes[i]);
+        _ => return None,
     }
-    out
-}
-
-// A transfer that no tape has room for is none.
-fn store_cut(value: &[u8], cuts: &mut [usize]) {
-    if value.len() != 4 {
-        return;
-    }
-    let transfer = numbers::be_u16(value[0], value[1]) as usize;
-    if transfer == 0 {
-        return;
-    }
-    if cuts.len() < transfer {
-        return;
-    }
-    cuts[transfer - 1] = 1 + numbers::be_u16(value[2], value[3]) as usize;
-}
-
-// Field 20, in seven bytes.
-pub(crate) fn put_device(device: Device, out: &mut [u8], at: usize) {
-    let check = if device.check { 1 } else { 0 };
-    let field = [
-        0x20,
-        0x00,
-        0x04,
-        device.x,
-        device.cells,
-        device.address,
-        check,
-    ];
-    if out.len() < 7 {
-        return;
-    }
-    if out.len() - 7 < at {
-        return;
-    }
-    out[at..at + 7].copy_from_slice(&field);
+    Some(())
 }

@@ -2,15 +2,16 @@
 // last the tape that the chip's answers make up.
 #![tactic(auto)]
 
+ghost use Rattle.std.specs.Prelude.{◌≤◌, length};
+
+use bench::Bench;
 use bq769x0::BQ769x0;
-use bq769x0::record::NewAnswer;
-use bus::Cursor;
-use call_text::refusing;
-use call_text::state::{Prints, State};
-use calls::HeadAnswer;
+use bus::Bus;
+use call_text::{Prints, refusing};
 use chip::Chip;
-use job::{Device, DeviceAnswer};
+use lines::refused;
 use std::io;
+use text::Hex;
 
 mod bench;
 mod front;
@@ -19,102 +20,69 @@ mod front;
 const SIZE: usize = 32768;
 
 fn main(rt: HostRuntime) -> io::Result<()> {
-    let mut input = [0u8; SIZE];
+    let mut input = [0; SIZE];
     let n = text::read_full(&mut rt.stdin(), &mut input)?;
     print(&rt, &mut input[..n])
 }
 
 // 15, then 9, 10, 11, then the calls.
-fn print(rt: &HostRuntime, input: &mut [u8]) -> io::Result<()> {
-    let parsed = job::parse_device(input);
-    match parsed {
-        DeviceAnswer::Wanted(device) => with_device(rt, input, device),
-        DeviceAnswer::Refused(e) => lines::refused::in_job(rt, e, input, 0, 0x20),
+fn print(rt: &(impl Print + Eprint), input: &mut [u8]) -> io::Result<()> {
+    let device = match job::parse_device(input) {
+        Ok(device) => device,
+        Err(e) => return refused::in_job(rt, e, input, 0, 0x20),
+    };
+    let mut chip = Chip::make(device.address, device.check);
+    let mut cuts = [None; bench::MOST];
+    match front::read(input, &mut chip, &mut cuts) {
+        Ok(calls_at) => with_calls(rt, input, calls_at, chip, &cuts),
+        Err(at) => refusing::field_at(rt, input, at),
     }
-}
-
-fn with_device(rt: &HostRuntime, input: &mut [u8], device: Device) -> io::Result<()> {
-    let mut cuts = [0usize; bench::MOST];
-    let front = front::read(input, Chip::make(device.address, device.check), &mut cuts);
-    let chip = front.chip;
-    let calls_at = front.calls_at;
-    if !front.fits {
-        return refusing::field_at(rt, input, calls_at);
-    }
-    if calls_at < calls::CALLS_AT {
-        return Ok(());
-    }
-    // Right ahead of the calls: from there on the input is a job of callrun's.
-    front::put_device(device, input, calls_at - calls::CALLS_AT);
-    with_calls(rt, input, calls_at, chip, &cuts)
 }
 
 // Field 20 and the calls, and nothing behind them.
 fn with_calls(
-    rt: &HostRuntime,
-    input: &[u8],
+    rt: &(impl Print + Eprint),
+    input: &mut [u8],
     calls_at: usize,
     chip: Chip,
-    cuts: &[usize],
-) -> io::Result<()> {
-    if calls_at < calls::CALLS_AT {
-        return Ok(());
-    }
-    if input.len() < calls_at {
-        return Ok(());
-    }
+    cuts: &[Option<usize>],
+) -> io::Result<()>
+    requires { (7 ≤ calls_at) × (calls_at ≤ length input.old) }
+{
+    // Field 20 right ahead of the calls: from there on the input is a job of callrun's.
     let job_at = calls_at - calls::CALLS_AT;
+    input.copy_within(..calls::CALLS_AT, job_at);
     let job = &input[job_at..];
-    let head = calls::head(job);
-    let HeadAnswer::Wanted(heading) = head else {
+    let Ok(heading) = calls::head(job) else {
         return refusing::calls(rt, input, calls_at);
     };
-    let device = heading.device;
-    let end = job_at.wrapping_add(heading.tape_at);
-    if end != input.len() {
-        return refusing::field_at(rt, input, end);
+    if heading.tape_at != job.len() {
+        return refusing::field_at(rt, input, job_at.wrapping_add(heading.tape_at));
     }
-    make(rt, input, job, device, chip, cuts)
-}
-
-fn make(
-    rt: &HostRuntime,
-    input: &[u8],
-    job: &[u8],
-    asked: Device,
-    chip: Chip,
-    cuts: &[usize],
-) -> io::Result<()> {
+    let asked = heading.device;
     let made = BQ769x0::new(asked.x, asked.address, asked.cells, asked.check);
-    let answer = made.answer;
-    let device = made.device;
-    match answer {
-        NewAnswer::Made => run(rt, job, device, chip, cuts),
-        NewAnswer::Refused(e) => lines::refused::in_job(rt, e, input, 0, 0x20),
+    if let Err(e) = made.answer {
+        return refused::in_job(rt, e, input, 0, 0x20);
     }
+    run(
+        rt,
+        Bench {
+            job,
+            device: made.device,
+            chip,
+            cuts,
+        },
+    )
 }
 
-fn fresh(device: BQ769x0, prints: Prints) -> State {
-    let at = Cursor { tape: 0, log: 0 };
-    State { device, at, prints }
-}
-
-fn run(
-    rt: &HostRuntime,
-    job: &[u8],
-    device: BQ769x0,
-    chip: Chip,
-    cuts: &[usize],
-) -> io::Result<()> {
-    let mut tape = [0u8; SIZE];
-    let mut log = [0u8; 65536];
-    let state = fresh(device, Prints::Nothing);
-    let end = bench::run(rt, job, state, chip, cuts, &mut tape, &mut log)?;
-    if SIZE < end {
-        return Ok(());
-    }
-    let state = fresh(device, Prints::Answers);
-    let left = call_text::in_turn(rt, job, &tape[..end], state, &mut log)?;
-    left.print(rt)?;
-    lines::bytes(rt, b"tape", &tape, end)
+fn run(rt: &(impl Print + Eprint), bench: Bench) -> io::Result<()> {
+    let mut tape = [0; SIZE];
+    let mut log = [0; 65536];
+    let job = bench.job;
+    let mut device = bench.device;
+    let end = bench.run(rt, &mut tape, &mut log)?;
+    let tape = tape.get(..end).unwrap_or(&[]);
+    let bus = &mut Bus::new(tape, &mut log);
+    call_text::print(rt, job, Prints::Answers, &mut device, bus)?;
+    println!(rt; "tape{}", Hex(tape))
 }

@@ -1,6 +1,5 @@
 // The chips, the records and the calls.
-use crate::bench;
-use crate::bench::{Place, Start};
+use crate::bench::Start;
 use crate::call::Call;
 use bq769x0::BQ769x0;
 use chip::Chip;
@@ -52,14 +51,12 @@ pub(crate) fn as_upper() -> Call {
 }
 
 fn fresh(x: u8, address: u8, check: bool) -> BQ769x0 {
-    let made = BQ769x0::new(x, address, x, check);
-    made.device
+    BQ769x0::new(x, address, x, check).device
 }
 
 // As a record was made, where it is lost.
 pub(crate) fn anew(device: BQ769x0) -> BQ769x0 {
-    let link = device.link;
-    fresh(link.x, link.address, link.check)
+    fresh(device.link.x, device.link.address, device.link.check)
 }
 
 pub(crate) fn all_zero(check: bool) -> Start {
@@ -73,10 +70,11 @@ pub(crate) fn all_zero(check: bool) -> Start {
 // Register r holds FF less r, so that the gain is 394 and the offset -82; but 05 holds A3.
 fn counted_down(check: bool) -> Chip {
     let mut chip = Chip::make(0x18, check);
-    for r in 0..=255 {
-        chip = chip.set(r, 255 - r);
+    for register in 0..=255 {
+        chip.set(register, 255 - register);
     }
-    chip.set(BQ769x0::SYS_CTRL2, 0xA3)
+    chip.set(BQ769x0::SYS_CTRL2, 0xA3);
+    chip
 }
 
 pub(crate) fn not_zero(check: bool) -> Start {
@@ -94,14 +92,7 @@ fn set_up(check: bool, config: Config) -> Start {
         device: fresh(BQ769x0::BQ76940, 8, check),
         call: Call::Init(example()),
     };
-    let run = bench::run(first, Place::none());
-    let chip = run.bench.chip;
-    let device = run.left.device;
-    Start {
-        chip,
-        device,
-        call: Call::Init(config),
-    }
+    first.run(None).left(Call::Init(config))
 }
 
 pub(crate) fn again(check: bool) -> Start {
@@ -141,10 +132,7 @@ fn with_others_on(x: u8, check: bool, call: Call) -> Start {
         device: fresh(x, 0x18, check),
         call: Call::Init(upper()),
     };
-    let run = bench::run(first, Place::none());
-    let chip = run.bench.chip;
-    let device = run.left.device;
-    Start { chip, device, call }
+    first.run(None).left(call)
 }
 
 // The most that a device of x inputs can have on together.
@@ -180,8 +168,10 @@ pub(crate) fn too_many(check: bool) -> Start {
 
 // Input 6 is on, and input 1 is to be instead, with a limit of 1.
 pub(crate) fn six_then_one(check: bool) -> Start {
+    let mut chip = Chip::make(8, check);
+    chip.set(0x02, 0b00001);
     Start {
-        chip: Chip::make(8, check).set(0x02, 0b00001),
+        chip,
         device: fresh(BQ769x0::BQ76930, 8, check),
         call: Call::Set(0b00001, 1),
     }

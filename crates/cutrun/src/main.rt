@@ -3,7 +3,9 @@
 // set.
 #![tactic(auto)]
 
+use bench::Start;
 use bq769x0::BQ769x0;
+use report::Case;
 use std::io;
 
 mod bench;
@@ -14,24 +16,27 @@ mod report;
 mod tally;
 mod twice;
 
+fn case(name: &'static str, start: Start) -> Case {
+    Case { name, start }
+}
+
 fn accepted(rt: &impl Print, check: bool) -> io::Result<()> {
-    report::all(rt, b"BQ76920", cases::all_zero(check), cases::as_upper())?;
-    report::all(rt, b"BQ76930", cases::not_zero(check), cases::as_example())?;
-    report::all(
-        rt,
-        b"BQ76940 again",
-        cases::again(check),
-        cases::as_example(),
-    )
+    case("BQ76920", cases::all_zero(check)).all(rt, cases::as_upper())?;
+    case("BQ76930", cases::not_zero(check)).all(rt, cases::as_example())?;
+    case("BQ76940 again", cases::again(check)).all(rt, cases::as_example())
 }
 
 fn refused(rt: &impl Print, check: bool) -> io::Result<()> {
-    let upper = cases::as_upper();
-    report::all(rt, b"BQ76940 refused", cases::no_range(check), upper)?;
-    report::all(rt, b"BQ76940 refused", cases::undervoltage(check), upper)?;
-    report::all(rt, b"BQ76940 refused", cases::overvoltage(check), upper)?;
-    report::all(rt, b"BQ76940 refused", cases::no_shunt(check), upper)?;
-    report::all(rt, b"BQ76940 refused", cases::overcurrent(check), upper)
+    for start in [
+        cases::no_range(check),
+        cases::undervoltage(check),
+        cases::overvoltage(check),
+        cases::no_shunt(check),
+        cases::overcurrent(check),
+    ] {
+        case("BQ76940 refused", start).all(rt, cases::as_upper())?;
+    }
+    Ok(())
 }
 
 fn inits(rt: &impl Print) -> io::Result<()> {
@@ -39,26 +44,33 @@ fn inits(rt: &impl Print) -> io::Result<()> {
     accepted(rt, true)?;
     refused(rt, false)?;
     refused(rt, true)?;
-    twice::all(rt, b"BQ76920", cases::all_zero(false))?;
-    twice::all(rt, b"BQ76920", cases::all_zero(true))?;
-    report::shown(rt, b"BQ76920", cases::all_zero(false))?;
-    report::shown(rt, b"BQ76920", cases::all_zero(true))
-}
-
-fn set_on(rt: &impl Print, name: &[u8], x: u8, check: bool) -> io::Result<()> {
-    report::all(rt, name, cases::set(x, check), cases::second())?;
-    twice::all(rt, name, cases::set(x, check))
+    let plain = case("BQ76920", cases::all_zero(false));
+    let checked = case("BQ76920", cases::all_zero(true));
+    twice::all(rt, plain)?;
+    twice::all(rt, checked)?;
+    plain.shown(rt)?;
+    checked.shown(rt)
 }
 
 fn sets(rt: &impl Print, check: bool) -> io::Result<()> {
     let second = cases::second();
-    set_on(rt, b"a set on a BQ76920", BQ769x0::BQ76920, check)?;
-    set_on(rt, b"a set on a BQ76930", BQ769x0::BQ76930, check)?;
-    set_on(rt, b"a set on a BQ76940", BQ769x0::BQ76940, check)?;
-    report::all(rt, b"a set refused", cases::not_on_device(check), second)?;
-    report::all(rt, b"a set refused", cases::neighbours(check), second)?;
-    report::all(rt, b"a set refused", cases::too_many(check), second)?;
-    report::shown(rt, b"input 1 for 6", cases::six_then_one(check))
+    for (name, x) in [
+        ("a set on a BQ76920", BQ769x0::BQ76920),
+        ("a set on a BQ76930", BQ769x0::BQ76930),
+        ("a set on a BQ76940", BQ769x0::BQ76940),
+    ] {
+        let set = case(name, cases::set(x, check));
+        set.all(rt, second)?;
+        twice::all(rt, set)?;
+    }
+    for start in [
+        cases::not_on_device(check),
+        cases::neighbours(check),
+        cases::too_many(check),
+    ] {
+        case("a set refused", start).all(rt, second)?;
+    }
+    case("input 1 for 6", cases::six_then_one(check)).shown(rt)
 }
 
 fn main(rt: HostRuntime) -> io::Result<()> {

@@ -3,202 +3,162 @@
 use crate::bench::{Outcome, Place, Start};
 use crate::call::Call;
 use crate::tally::Tally;
-use crate::{bench, cases, compare};
-use bq769x0::BQ769x0;
+use crate::{cases, compare};
 use chip::Chip;
-use std::io;
+use std::{fmt, io};
 
-// The call after a cut: with the record that the cut left or with a new one.
+// A start by its name; with the build, in print.
+#[derive(Clone, Copy)]
+pub(crate) struct Case {
+    pub name: &'static str,
+    pub start: Start,
+}
+
+impl fmt::Display for Case {
+    fn fmt<W: fmt::Write>(&self, f: &mut fmt::Formatter<W>) -> fmt::Result {
+        f.write_str(self.name)?;
+        if self.start.device.link.check {
+            f.write_str(" with checks")?;
+        }
+        Ok(())
+    }
+}
+
+// What a run answers and leaves, on a chip that was as `before`.
+#[derive(Clone, Copy)]
+struct Left {
+    before: Chip,
+    run: Outcome,
+}
+
+impl fmt::Display for Left {
+    fn fmt<W: fmt::Write>(&self, f: &mut fmt::Formatter<W>) -> fmt::Result {
+        let device = &self.run.device;
+        write!(
+            f,
+            ": answer {}, mark {} shunt {}",
+            self.run.number(),
+            device.init_complete as u8,
+            device.shunt.0
+        )?;
+        let before = &self.before.regs;
+        let after = &self.run.chip.regs;
+        if before == after {
+            return f.write_str(", no register new");
+        }
+        for (register, (before, byte)) in before.iter().zip(after).enumerate() {
+            if before != byte {
+                write!(f, ", {register:02X} is {byte:02X}")?;
+            }
+        }
+        Ok(())
+    }
+}
+
+// The call after a cut, in words too: with the record that the cut left or with a new one.
 #[derive(Clone, Copy)]
 struct After {
+    what: &'static str,
     anew: bool,
     call: Call,
 }
 
 impl After {
-    fn on(self, chip: Chip, device: BQ769x0) -> Start {
-        let call = self.call;
-        if self.anew {
-            return Start {
-                chip,
-                device: cases::anew(device),
-                call,
-            };
+    fn on(self, start: Start) -> Outcome {
+        let device = if self.anew {
+            cases::anew(start.device)
+        } else {
+            start.device
+        };
+        Start {
+            chip: start.chip,
+            device,
+            call: self.call,
         }
-        Start { chip, device, call }
+        .run(None)
     }
 }
 
-// A register whose byte is not as it was, and whether it is such.
-fn register(rt: &impl Print, r: u8, before: u8, byte: u8) -> io::Result<bool> {
-    if byte == before {
-        return Ok(false);
-    }
-    text::words(rt, b",")?;
-    text::hex(rt, r)?;
-    text::words(rt, b" is")?;
-    text::hex(rt, byte)?;
-    Ok(true)
-}
-
-fn registers(rt: &impl Print, before: Chip, chip: Chip) -> io::Result<()> {
-    let mut any = false;
-    for r in 0..=255 {
-        let i = r as usize;
-        any = register(rt, r, before.regs[i], chip.regs[i])? | any;
-    }
-    if !any {
-        text::words(rt, b", no register new")?;
-    }
-    Ok(())
-}
-
-fn record(rt: &impl Print, device: BQ769x0) -> io::Result<()> {
-    text::words(rt, b", mark")?;
-    text::number(rt, device.init_complete as u64)?;
-    text::words(rt, b" shunt")?;
-    text::number(rt, device.shunt.0 as u64)
-}
-
-fn answer(rt: &impl Print, run: &Outcome) -> io::Result<()> {
-    text::words(rt, b" answer")?;
-    text::number(rt, run.left.number as u64)
-}
-
-// What a run from a start answers and leaves.
-fn left(rt: &impl Print, start: Start, run: &Outcome) -> io::Result<()> {
-    let device = run.left.device;
-    let before = start.chip;
-    let chip = run.bench.chip;
-    text::words(rt, b":")?;
-    answer(rt, run)?;
-    record(rt, device)?;
-    registers(rt, before, chip)
-}
-
-// A start's name, and the build.
-pub(crate) fn title(rt: &impl Print, name: &[u8], start: Start) -> io::Result<()> {
-    let link = start.device.link;
-    text::words(rt, name)?;
-    if link.check {
-        text::words(rt, b" with checks")?;
-    }
-    Ok(())
-}
-
-pub(crate) fn cut_at(rt: &impl Print, place: Place) -> io::Result<()> {
-    text::words(rt, b", transfer")?;
-    text::number(rt, place.transfer as u64)?;
-    text::words(rt, b" cut after")?;
-    text::number(rt, place.bytes as u64)
-}
-
-// What a cut leaves.
-fn line(rt: &impl Print, name: &[u8], start: Start, place: Place) -> io::Result<()> {
-    let cut = bench::run(start, place);
-    title(rt, name, start)?;
-    cut_at(rt, place)?;
-    left(rt, start, &cut)?;
-    text::words(rt, b"\n")
-}
-
-// Whether the call after a cut ends as this one; a line where it does not.
-fn same(
-    rt: &impl Print,
-    name: &[u8],
-    what: &[u8],
-    start: Start,
-    after: After,
-    whole: &Outcome,
-    place: Place,
-) -> io::Result<bool> {
-    let cut = bench::run(start, place);
-    let chip = cut.bench.chip;
-    let device = cut.left.device;
-    let then = bench::run(after.on(chip, device), Place::none());
-    if compare::same(&then, whole) {
-        return Ok(true);
-    }
-    text::words(rt, what)?;
-    text::words(rt, b" DIFFERS after ")?;
-    line(rt, name, start, place)?;
-    Ok(false)
-}
-
-// That call with nothing cut before it.
-fn uncut(start: Start, after: After) -> Outcome {
-    let chip = start.chip;
-    let device = start.device;
-    bench::run(after.on(chip, device), Place::none())
-}
-
-fn each(
-    rt: &impl Print,
-    name: &[u8],
-    what: &[u8],
-    start: Start,
-    after: After,
-) -> io::Result<Tally> {
-    let first = bench::run(start, Place::none());
-    let whole = uncut(start, after);
-    let mut tally = Tally::none();
-    let mut place = Place::first();
-    for _ in 0..bench::PLACES {
-        if first.has(place) {
-            tally = tally.counted(same(rt, name, what, start, after, &whole, place)?);
-            place = first.next(place);
+impl Case {
+    fn left(self, cut: Option<Place>) -> Left {
+        Left {
+            before: self.start.chip,
+            run: self.start.run(cut),
         }
     }
-    Ok(tally)
-}
 
-fn counted(
-    rt: &impl Print,
-    kept: Tally,
-    lost: Tally,
-    otherwise: Tally,
-    call: Call,
-) -> io::Result<()> {
-    text::words(rt, b"; cut at")?;
-    text::number(rt, kept.tried)?;
-    text::words(rt, b" places, then as if never cut:")?;
-    text::number(rt, kept.same)?;
-    text::words(rt, b" again,")?;
-    text::number(rt, lost.same)?;
-    text::words(rt, b" with a new record,")?;
-    text::number(rt, otherwise.same)?;
-    call.another(rt)?;
-    text::words(rt, b",")
-}
-
-// A start's line.
-pub(crate) fn all(rt: &impl Print, name: &[u8], start: Start, other: Call) -> io::Result<()> {
-    let call = start.call;
-    let again = After { anew: false, call };
-    let anew = After { anew: true, call };
-    let otherwise = After {
-        anew: false,
-        call: other,
-    };
-    let kept = each(rt, name, b"again", start, again)?;
-    let lost = each(rt, name, b"with a new record", start, anew)?;
-    let last = each(rt, name, b"otherwise", start, otherwise)?;
-    title(rt, name, start)?;
-    left(rt, start, &bench::run(start, Place::none()))?;
-    counted(rt, kept, lost, last, call)?;
-    answer(rt, &uncut(start, otherwise))?;
-    text::words(rt, b"\n")
-}
-
-// A line for each place.
-pub(crate) fn shown(rt: &impl Print, name: &[u8], start: Start) -> io::Result<()> {
-    let first = bench::run(start, Place::none());
-    let mut place = Place::first();
-    for _ in 0..bench::PLACES {
-        if first.has(place) {
-            line(rt, name, start, place)?;
-            place = first.next(place);
-        }
+    // What a cut leaves.
+    fn line(self, rt: &impl Print, place: Place) -> io::Result<()> {
+        let left = self.left(Some(place));
+        println!(rt; "{self}{place}{left}")
     }
-    Ok(())
+
+    // Whether a call after a cut ends as with nothing cut before it; a line where it does not.
+    fn is_same(
+        self,
+        rt: &impl Print,
+        after: After,
+        whole: &Outcome,
+        place: Place,
+    ) -> io::Result<bool> {
+        let then = after.on(self.start.run(Some(place)).left(self.start.call));
+        if compare::same(&then, whole) {
+            return Ok(true);
+        }
+        print!(rt; "{} DIFFERS after ", after.what)?;
+        self.line(rt, place)?;
+        Ok(false)
+    }
+
+    fn tally(self, rt: &impl Print, after: After) -> io::Result<Tally> {
+        let whole = after.on(self.start);
+        let mut tally = Tally::default();
+        self.start.run(None).at_each_place(|place| {
+            tally.count(self.is_same(rt, after, &whole, place)?);
+            Ok(())
+        })?;
+        Ok(tally)
+    }
+
+    // The start's line.
+    pub(crate) fn all(self, rt: &impl Print, other: Call) -> io::Result<()> {
+        let call = self.start.call;
+        let again = After {
+            what: "again",
+            anew: false,
+            call,
+        };
+        let anew = After {
+            what: "with a new record",
+            anew: true,
+            call,
+        };
+        let otherwise = After {
+            what: "otherwise",
+            anew: false,
+            call: other,
+        };
+        let kept = self.tally(rt, again)?;
+        let lost = self.tally(rt, anew)?;
+        let last = self.tally(rt, otherwise)?;
+        let left = self.left(None);
+        print!(rt;
+            "{self}{left}; cut at {} places, then as if never cut: {} again,",
+            kept.tried, kept.same
+        )?;
+        println!(rt;
+            " {} with a new record, {} {}, answer {}",
+            lost.same,
+            last.same,
+            call.another(),
+            otherwise.on(self.start).number()
+        )
+    }
+
+    // A line for each place.
+    pub(crate) fn shown(self, rt: &impl Print) -> io::Result<()> {
+        self.start
+            .run(None)
+            .at_each_place(|place| self.line(rt, place))
+    }
 }

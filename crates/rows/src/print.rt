@@ -1,21 +1,16 @@
 // One line a row: what it is, what came, what should have come.
+use refusals::Error;
+use std::fmt::Display;
 use std::io;
 
-pub(crate) fn row(rt: &impl Print, name: &[u8], came: u32, should: u32) -> io::Result<()> {
-    text::words(rt, name)?;
-    text::words(rt, b":")?;
-    text::number(rt, came as u64)?;
-    text::words(rt, b", should be")?;
-    text::number(rt, should as u64)?;
-    text::words(rt, b"\n")
+pub(crate) fn rows<N: Display + Copy>(rt: &impl Print, rows: &[(&str, N, N)]) -> io::Result<()> {
+    for &(name, came, should) in rows {
+        println!(rt; "{name}: {came}, should be {should}")?;
+    }
+    Ok(())
 }
 
-// The same for a number that may be below zero.
-pub(crate) fn signed_row(rt: &impl Print, name: &[u8], came: i32, should: i32) -> io::Result<()> {
-    text::words(rt, name)?;
-    text::words(rt, b":")?;
-    text::signed_number(rt, came)?;
-    text::words(rt, b", should be")?;
-    text::signed_number(rt, should)?;
-    text::words(rt, b"\n")
+// The refusal's number, or 0.
+pub(crate) fn refusal<T: Drop>(answer: Result<T, Error>) -> u8 {
+    answer.err().map_or(0, |e| e.number())
 }

@@ -1,175 +1,120 @@
 // The same about records, and about transfers over a tape and a log.
-use crate::print;
-use adc::counter::CurrentAnswer;
-use adc::transfer::AdcTransferFunction;
+use crate::print::{refusal, rows};
 use bq769x0::BQ769x0;
-use bq769x0::record::NewAnswer;
-use bus::Cursor;
-use bus::link::{Link, RawAnswer};
+use bus::Bus;
+use bus::link::Link;
 use cells::crate_list;
 use measuring::pack;
+use refusals::Error;
 use std::io;
-use units::MicroOhms;
+use units::{MicroOhms, MilliAmperes};
 
-// The status read from a log's begin.
-fn read_status(link: Link, log: &mut [u8]) -> u32 {
-    let mut data = [0u8; 1];
-    let tape = [0x01, 0x00, 0x01, 0x80];
-    let at = Cursor { tape: 0, log: 0 };
-    let answer = raw::read_raw(link, 0x00, &mut data, &tape, log, at).answer;
-    match answer {
-        RawAnswer::Done => 0,
-        RawAnswer::Refused(e) => e.number() as u32,
+fn link(address: u8, x: u8) -> Link {
+    Link {
+        address,
+        check: false,
+        x,
     }
 }
 
-fn transfers(rt: &impl Print) -> io::Result<()> {
-    let mut log = [0u8; 7];
-    let far = Link {
-        address: 128,
-        check: false,
-        x: 5,
-    };
-    print::row(
-        rt,
-        b"D11 setup with address 128: refused",
-        read_status(far, &mut log),
-        9,
-    )?;
-    let none = Link {
-        address: 8,
-        check: false,
-        x: 6,
-    };
-    print::row(
-        rt,
-        b"D11 setup with X 6: refused",
-        read_status(none, &mut log),
-        9,
-    )
+// The status read from a log's begin.
+fn read_status(link: Link, log: &mut [u8]) -> Result<(), Error> {
+    let tape = [0x01, 0x00, 0x01, 0x80];
+    let mut data = [0];
+    raw::read_raw(link, 0x00, &mut data, &mut Bus::new(&tape, log))
 }
 
-fn logs(rt: &impl Print) -> io::Result<()> {
-    let link = Link {
-        address: 8,
-        check: false,
-        x: 5,
-    };
-    let mut short = [0u8; 6];
-    print::row(
+fn transfers(rt: &impl Print) -> io::Result<()> {
+    let mut log = [0; 7];
+    let far = refusal(read_status(link(128, 5), &mut log));
+    let none = refusal(read_status(link(8, 6), &mut log));
+    let short = refusal(read_status(link(8, 5), &mut log[..6]));
+    let enough = refusal(read_status(link(8, 5), &mut log));
+    rows(
         rt,
-        b"D27 a read with 6 bytes of log: refused",
-        read_status(link, &mut short),
-        17,
-    )?;
-    let mut log = [0u8; 7];
-    print::row(
-        rt,
-        b"D27 the same with 7: refused",
-        read_status(link, &mut log),
-        0,
+        &[
+            ("D11 setup with address 128: refused", far, 9),
+            ("D11 setup with X 6: refused", none, 9),
+            ("D27 a read with 6 bytes of log: refused", short, 17),
+            ("D27 the same with 7: refused", enough, 0),
+        ],
     )
 }
 
 // A BQ76920 of five cells that is marked as initialised.
 fn marked(shunt: u32) -> BQ769x0 {
-    let link = Link {
-        address: 8,
-        check: false,
-        x: 5,
-    };
-    let adc = AdcTransferFunction {
-        gain: 365,
-        offset: 0,
-    };
-    BQ769x0::of_parts(link, 5, adc, MicroOhms(shunt), true)
+    BQ769x0::of_parts(link(8, 5), 5, crate::adc(365, 0), MicroOhms(shunt), true)
 }
 
-fn current(device: BQ769x0) -> u32 {
-    let mut log = [0u8; 7];
+fn current(device: &BQ769x0) -> Result<MilliAmperes, Error> {
     let tape = [0x01, 0x00, 0x02, 0x00, 0x01];
-    let at = Cursor { tape: 0, log: 0 };
-    let answer = pack::current(device, &tape, &mut log, at).answer;
-    match answer {
-        CurrentAnswer::Flows(_) => 0,
-        CurrentAnswer::Refused(e) => e.number() as u32,
-    }
+    let mut log = [0; 7];
+    pack::current(device, &mut Bus::new(&tape, &mut log))
 }
 
 fn unsound(rt: &impl Print) -> io::Result<()> {
-    print::row(
+    let none = refusal(current(&marked(0)));
+    let large = refusal(current(&marked(2147483648)));
+    rows(
         rt,
-        b"D29 current of a record marked with shunt 0: refused",
-        current(marked(0)),
-        9,
-    )?;
-    print::row(
-        rt,
-        b"D29 the same with shunt 2147483648: refused",
-        current(marked(2147483648)),
-        9,
+        &[
+            (
+                "D29 current of a record marked with shunt 0: refused",
+                none,
+                9,
+            ),
+            ("D29 the same with shunt 2147483648: refused", large, 9),
+        ],
     )
 }
 
 fn not_made(rt: &impl Print) -> io::Result<()> {
     let made = BQ769x0::new(6, 8, 6, false);
-    let answer = made.answer;
-    let device = made.device;
-    let number = match answer {
-        NewAnswer::Made => 0,
-        NewAnswer::Refused(e) => e.number() as u32,
-    };
-    print::row(rt, b"D30 new with X 6: refused", number, 9)?;
-    print::row(
+    let flow = refusal(current(&made.device));
+    rows(
         rt,
-        b"D30 X of the record it leaves",
-        device.link.x as u32,
-        0,
-    )?;
-    print::row(
-        rt,
-        b"D30 current of that record: refused",
-        current(device),
-        9,
+        &[
+            ("D30 new with X 6: refused", refusal(made.answer), 9),
+            ("D30 X of the record it leaves", made.device.link.x, 0),
+            ("D30 current of that record: refused", flow, 9),
+        ],
     )
 }
 
-// How many cells of five are handed back, or 16 for more than there are.
-fn handed(list: &mut [i32]) -> u32 {
-    let part = crate_list::cells_of(marked(1000), list);
-    let n = part.len();
-    if n < 16 { n as u32 } else { 16 }
+// How many cells of five are handed back.
+fn handed(list: &mut [i32]) -> usize {
+    crate_list::cells_of(&marked(1000), list).len()
 }
 
 fn parts(rt: &impl Print) -> io::Result<()> {
-    let mut short = [0i32; 4];
-    print::row(
+    let mut list = [0; 6];
+    let short = handed(&mut list[..4]);
+    let long = handed(&mut list);
+    rows(
         rt,
-        b"D33 cells handed back of a list of 4",
-        handed(&mut short),
-        0,
-    )?;
-    let mut list = [0i32; 6];
-    print::row(
-        rt,
-        b"D33 cells handed back of a list of 6",
-        handed(&mut list),
-        5,
+        &[
+            ("D33 cells handed back of a list of 4", short, 0),
+            ("D33 cells handed back of a list of 6", long, 5),
+        ],
     )
 }
 
 fn constants(rt: &impl Print) -> io::Result<()> {
-    print::row(rt, b"D34 BQ76920", BQ769x0::BQ76920 as u32, 5)?;
-    print::row(rt, b"D34 BQ76930", BQ769x0::BQ76930 as u32, 10)?;
-    print::row(rt, b"D34 BQ76940", BQ769x0::BQ76940 as u32, 15)?;
-    print::row(rt, b"D34 SYS_CTRL2", BQ769x0::SYS_CTRL2 as u32, 0x05)?;
-    print::row(rt, b"D34 PROTECT1", BQ769x0::PROTECT1 as u32, 0x06)?;
-    print::row(rt, b"D34 ADCGAIN1", BQ769x0::ADCGAIN1 as u32, 0x50)
+    rows(
+        rt,
+        &[
+            ("D34 BQ76920", BQ769x0::BQ76920, 5),
+            ("D34 BQ76930", BQ769x0::BQ76930, 10),
+            ("D34 BQ76940", BQ769x0::BQ76940, 15),
+            ("D34 SYS_CTRL2", BQ769x0::SYS_CTRL2, 0x05),
+            ("D34 PROTECT1", BQ769x0::PROTECT1, 0x06),
+            ("D34 ADCGAIN1", BQ769x0::ADCGAIN1, 0x50),
+        ],
+    )
 }
 
 pub(crate) fn records(rt: &impl Print) -> io::Result<()> {
     transfers(rt)?;
-    logs(rt)?;
     unsound(rt)?;
     not_made(rt)?;
     parts(rt)?;

@@ -7,7 +7,7 @@ use std::io;
 mod given;
 
 fn main(rt: HostRuntime) -> io::Result<()> {
-    let mut input = [0u8; 32768];
+    let mut input = [0; 32768];
     let n = text::read_full(&mut rt.stdin(), &mut input)?;
     given::print(&rt, &input[..n])
 }
