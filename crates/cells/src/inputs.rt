@@ -47,8 +47,8 @@ fn convert_eight(adc: AdcTransferFunction, buf: &[u8; 32], k: usize, inputs: &mu
     requires held { Held adc buf.now k inputs.old }
     ensures { Held adc buf.now (k + 8) inputs.new }
 {
-    for i in k..k + 8 {
-        inputs[i] = millivolts(adc, buf[2 * i], buf[2 * i + 1]);
+    for i in 0..8 {
+        inputs[k + i] = millivolts(adc, buf[2 * (k + i)], buf[2 * (k + i) + 1]);
     }
 }
 

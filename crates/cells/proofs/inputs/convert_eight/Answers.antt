@@ -1,4 +1,4 @@
--- `cells::inputs::convert_eight` meets its contract: a turn goes on from i inputs to i + 1.
+-- `cells::inputs::convert_eight` meets its contract: a turn goes on from k + i inputs to k + i + 1.
 -- Assumes nothing.
 use Rattle.std.proofs.Common.{◌≡◌, ℕ, suc, ◌+◌, ◌*◌, ◌<◌, ◌≤◌, Bool, true, false, List, [], ◌∷◌, ◌++◌, length, get_or, set, ℤ, pos, nat_abs, ltb, refl, sym, ◌∙◌, arith, length-set, get_or-set_same, get_or-set_other, ltb-true, ltb-false, of_z, to_z, w32}
 use mathlib.Core.Path.{ap₂}
@@ -54,8 +54,8 @@ pub loop-i-preserved : goal.loop-i-preserved
 loop-i-preserved c =
     let held = c.loop-i.invariant in
     let mv = c.millivolts.result in
-    let more : c.loop-i.i < 16 = omega arith in
+    let more : c.args.k + c.loop-i.i < 16 = omega arith in
     let read : to_z w32 (of_z w32 mv) ≡ mv = read_back w32 mv c.millivolts.type_inv in
-    let e : suc c.loop-i.i ≡ c.loop-i.i + 1 = omega arith in
+    let e : suc (c.args.k + c.loop-i.i) ≡ c.args.k + (c.loop-i.i + 1) = omega arith in
     let next = one_more held more (read ∙ c.millivolts.ensures.0 ∙ next_is held more) (rw read c.millivolts.ensures.1) in
     rw e at next
