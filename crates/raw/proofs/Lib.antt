@@ -2,6 +2,5 @@ mod Asked
 mod Fields
 mod Heard
 mod Moves
+mod Pairs
 mod Quick
-mod Three
-mod Writes

@@ -4,84 +4,24 @@ use mathlib.Core.Path.{◌≡◌, refl, sym, ap, subst, ◌∙◌}
 use mathlib.Core.Bool.{Bool, true, false, ◌&&◌, ◌||◌}
 use mathlib.Core.Logic.{◌⊎◌, inl, inr, ⊎_elim}
 use Prim.Native.Nat.{ℕ, ◌+◌, ◌*◌, ◌≤◌}
-use mathlib.Core.List.{List, [], ◌∷◌, ◌++◌}
+use mathlib.Core.List.{List, ◌++◌}
 use native.Mathlib.Omega.{arith}
-use lib.ListN.{length, take, drop, get_or, replicate, length-replicate, drop_of_length-le}
-use lib.Seq.{take_at, drop-cons}
+use lib.ListN.{length, take, drop, replicate, length-replicate}
+use lib.Seq.{take_at}
 use lib.Dec.{T, eqb, leb, eqb→eq}
 use mir.Facts.{or_yes}
 use Rattle.laws.proofs.Tests.{both_right}
 use borrow.Author.Tests.{ne_eqb}
-use Rattle.check_byte.specs.CheckByte.{check_byte}
 use Rattle.refusals.specs.Refusal.{Answer, value}
-use Rattle.frames.specs.Frames.{read_byte, right, data_of, write_frame}
+use Rattle.frames.specs.Frames.{write_frame}
 use Rattle.frames.specs.Put.{put}
-use Rattle.frames.proofs.Put.{put_all}
 use Rattle.bus.specs.Transfers.{read, write, Bus, outcome, after}
 use Rattle.bus.specs.Programs.{ends, on_tape}
-use Rattle.bus.specs.Raw.{Done, sound, refuses, Read, gives, compared, read_raw, send, write_raw}
+use Rattle.bus.specs.Raw.{Done, sound, Read, gives, compared, read_raw, send, write_raw}
 use Rattle.bus.specs.declared.link.Link.{Link}
 use Rattle.bus.proofs.Raws.{zeros, checked_goes, read_checked, read_plain, send_goes, write_done, write_back}
 use Rattle.raw.specs.Inside.{Reply, whole, taken, ReadBy, SentBy, EchoedBy}
-use Rattle.raw.proofs.Asked.{plain_read_is, taken_wrong, taken_right, frame_read, back_on, write_sent}
-
--- ---- a list of one and of two, spelled out
-past : (l : List ℕ) (i : ℕ) → length l ≤ i → drop i l ≡ []
-past l i h = drop_of_length-le l h
-
-pub one : (l : List ℕ) → length l ≡ 1 → l ≡ get_or l 0 0 ∷ []
-one l s = drop-cons l 0 0 (omega arith) ∙ ap (λ (r : List ℕ). get_or l 0 0 ∷ r) (past l 1 (omega arith))
-
-pub two : (l : List ℕ) → length l ≡ 2 → l ≡ get_or l 0 0 ∷ get_or l 1 0 ∷ []
-two l s =
-    drop-cons l 0 0 (omega arith)
-    ∙ ap (λ (r : List ℕ). get_or l 0 0 ∷ r) (drop-cons l 1 0 (omega arith)
-    ∙ ap (λ (r : List ℕ). get_or l 1 0 ∷ r) (past l 2 (omega arith)))
-
--- ---- a frame of one byte and its check byte, and of two
-and_true : (b : Bool) → b && true ≡ b
-and_true true = refl
-and_true false = refl
-
-pub right_one : (before frame : List ℕ) (c : ℕ) → length frame ≡ 2 → c ≡ check_byte (before ++ get_or frame 0 0 ∷ [])
-    → right before frame ≡ eqb (get_or frame 1 0) c
-unfolding right
-right_one before [] c s e = absurd (omega arith)
-right_one before (x ∷ []) c s e = absurd (omega arith)
-right_one before (x ∷ y ∷ []) c s e = rw e (and_true _)
-right_one before (x ∷ y ∷ z ∷ frame) c s e = absurd (omega arith)
-
-pub data_one : (frame : List ℕ) → length frame ≡ 2 → data_of frame ≡ get_or frame 0 0 ∷ []
-unfolding data_of
-data_one [] s = absurd (omega arith)
-data_one (x ∷ []) s = absurd (omega arith)
-data_one (x ∷ y ∷ []) s = refl
-data_one (x ∷ y ∷ z ∷ frame) s = absurd (omega arith)
-
-pub right_two : (before frame : List ℕ) (c d : ℕ) → length frame ≡ 4
-    → c ≡ check_byte (before ++ get_or frame 0 0 ∷ []) → d ≡ check_byte (get_or frame 2 0 ∷ [])
-    → right before frame ≡ (eqb (get_or frame 1 0) c && eqb (get_or frame 3 0) d)
-unfolding right
-right_two before [] c d s e f = absurd (omega arith)
-right_two before (x ∷ []) c d s e f = absurd (omega arith)
-right_two before (x ∷ y ∷ frame) c d s e f =
-    rw e (ap (λ (b : Bool). eqb y (check_byte (before ++ x ∷ [])) && b) (right_one [] frame d (omega arith) f))
-
-pub data_two : (frame : List ℕ) → length frame ≡ 4 → data_of frame ≡ get_or frame 0 0 ∷ get_or frame 2 0 ∷ []
-unfolding data_of
-data_two [] s = absurd (omega arith)
-data_two (x ∷ []) s = absurd (omega arith)
-data_two (x ∷ y ∷ frame) s = ap (λ (l : List ℕ). x ∷ l) (data_one frame (omega arith))
-
--- what such a frame gives
-module _ (address : ℕ) (buf frame : List ℕ) where
-  pub frame_wrong : right (read_byte address ∷ []) frame ≡ false → gives (refuses 1) buf ≡ taken address buf frame false
-  frame_wrong e = sym (taken_wrong address buf frame false e)
-
-  pub frame_right : {v : List ℕ} → right (read_byte address ∷ []) frame ≡ true → data_of frame ≡ v → length buf ≤ length v
-      → gives (value tt) v ≡ taken address buf frame false
-  frame_right {v} e d s =
-      sym (taken_right address buf frame e ∙ ap (gives (value tt)) (ap (put buf 0) d ∙ put_all buf v s))
+use Rattle.raw.proofs.Asked.{plain_read_is, frame_read, back_on, write_sent}
 
 -- a device has at least five inputs
 pub five : (s : Link) → sound s ≡ true → 5 ≤ s.x
@@ -157,25 +97,23 @@ module _ (s : Link) (reg : ℕ) (buf : List ℕ) {b b' : Bus} (ok : sound s ≡ 
 
 -- ---- writing
 module _ (s : Link) (reg : ℕ) (bytes frame : List ℕ) {b b' : Bus} (ok : sound s ≡ true)
-    (few : length bytes ≤ 8) (some : length bytes ≡ 0 → ⊥) (within : reg + length bytes ≤ 256) where
-  went : {check : Bool} → s.check ≡ check → frame ≡ write_frame check s.address reg bytes
-      → SentBy (write s.address frame) true b b' → ends (value tt) b' ≡ on_tape (send s reg bytes) b
-  went c is sent =
-      write_sent s reg bytes frame (whole 0) refl (is ∙ ap (λ (k : Bool). write_frame k s.address reg bytes) (sym c)) sent
-      ∙ send_goes s reg bytes b ok few some within
+    (few : length bytes ≤ 8) (some : length bytes ≡ 0 → ⊥) (within : reg + length bytes ≤ 256)
+    (is : frame ≡ write_frame s.check s.address reg bytes) where
+  went : SentBy (write s.address frame) true b b' → ends (value tt) b' ≡ on_tape (send s reg bytes) b
+  went sent = write_sent s reg bytes frame (whole 0) refl is sent ∙ send_goes s reg bytes b ok few some within
 
-  pub sent_well : s.check ≡ true → frame ≡ write_frame true s.address reg bytes
-      → SentBy (write s.address frame) true b b' → ends (value tt) b' ≡ on_tape (write_raw s reg bytes) b
-  sent_well c is sent = write_done s reg bytes b b' (value tt) (went c is sent) refl (rw c)
+  pub sent_well : s.check ≡ true → SentBy (write s.address frame) true b b' → ends (value tt) b' ≡ on_tape (write_raw s reg bytes) b
+  sent_well c sent = write_done s reg bytes b b' (value tt) (went sent) refl (rw c)
 
 -- without checks what was written is read back and compared
 module _ (s : Link) (reg : ℕ) (bytes frame : List ℕ) {b b' : Bus} (ok : sound s ≡ true)
-    (few : length bytes ≤ 8) (some : length bytes ≡ 0 → ⊥) (within : reg + length bytes ≤ 256) where
-  pub echoed_well : (back : List ℕ) {back' : List ℕ} {x : Answer Done} → s.check ≡ false → frame ≡ write_frame false s.address reg bytes
+    (few : length bytes ≤ 8) (some : length bytes ≡ 0 → ⊥) (within : reg + length bytes ≤ 256)
+    (is : frame ≡ write_frame s.check s.address reg bytes) where
+  pub echoed_well : (back : List ℕ) {back' : List ℕ} {x : Answer Done} → s.check ≡ false
       → EchoedBy (write s.address frame) (read s.address reg (length back)) back true back' b b'
       → length back ≡ length bytes → length back' ≡ length back → x ≡ compared reg bytes back'
       → ends x b' ≡ on_tape (write_raw s reg bytes) b
-  echoed_well back c is (sent, back_read) size kept e =
+  echoed_well back c (sent, back_read) size kept e =
       let between = after (write s.address frame) (outcome (write s.address frame) b) b in
       back_on s.address reg bytes back size _ kept back_read refl e
-      ∙ write_back s reg bytes b between (value tt) (went s reg bytes frame ok few some within c is sent) refl (rw (c, ne_eqb _ _ some))
+      ∙ write_back s reg bytes b between (value tt) (went s reg bytes frame ok few some within is sent) refl (rw (c, ne_eqb _ _ some))

@@ -1,8 +1,6 @@
-// One register read, two read, and one and six written, each as `read_raw` and `write_raw` do it for that count: by the short way of
-// `well` where it can be gone, else by the long way from the start. What the long way is lent is held apart, so that the compiler need
-// not keep the short way's in memory for it.
-ghost use Rattle.std.specs.Prelude.{◌≡◌, true, false};
-ghost use Rattle.frames.specs.Frames.{write_frame};
+// Up to eight registers read and written, as `read_raw` and `write_raw` do it: by the short way of `well` where it can be gone, else by the
+// long way from the start. Each is inlined where it is called, so that a count known there makes frames of that size and no loops.
+ghost use Rattle.std.specs.Prelude.{◌≡◌, false, ◌*◌, ◌≤◌, length};
 ghost use Rattle.bus.specs.Lent.{does};
 ghost use Rattle.bus.specs.Raw.{as_raw, gives, read_raw, write_raw};
 ghost use Rattle.raw.specs.Inside.{taken};
@@ -10,134 +8,94 @@ ghost use Rattle.raw.specs.Inside.{taken};
 use crate::{long, well};
 use bus::Bus;
 use bus::link::Link;
-use check_byte::{check_byte1, check_byte2, check_byte3};
+use check_byte::{check_byte1, check_byte2};
 use refusals::Error;
+
+#[inline(always)]
+pub fn read(link: Link, reg: u8, data: &mut [u8], bus: &mut Bus) -> Result<(), Error>
+    ensures { does (read_raw link reg «data».old) bus (gives (as_raw result) «data».new) }
+{
+    let address = link.address;
+    let n = data.len();
+    if link.is_sound() & (n <= 8) & (reg as usize + n <= 256) {
+        if !link.check {
+            if well::got(address, reg, data, bus) {
+                return Ok(());
+            }
+        } else if n != 0 {
+            let mut held = [0u8; 16];
+            let frame = &mut held[..2 * n];
+            if well::got(address, reg, frame, bus) {
+                return take_pairs(address, frame, data);
+            }
+        }
+    }
+    long::read_long(link, reg, data, bus)
+}
+
+// What a frame gives, whose bytes have each its check byte behind it.
+#[inline(always)]
+fn take_pairs(address: u8, frame: &[u8], data: &mut [u8]) -> Result<(), Error>
+    requires { (1 ≤ length «data».old) × (length frame.now ≡ 2 * length «data».old) }
+    ensures { gives (as_raw result) «data».new ≡ taken address «data».old frame.now false }
+{
+    let mut right = frame[1] == check_byte2(address << 1 | 1, frame[0]);
+    for i in 1..data.len() {
+        right &= frame[2 * i + 1] == check_byte1(frame[2 * i]);
+    }
+    if !right {
+        return Err(Error::CRCMismatch);
+    }
+    for i in 0..data.len() {
+        data[i] = frame[2 * i];
+    }
+    Ok(())
+}
+
+#[inline(always)]
+pub fn write(link: Link, reg: u8, data: &[u8], bus: &mut Bus) -> Result<(), Error>
+    ensures { does (write_raw link reg «data».now) bus (as_raw result) }
+{
+    let address = link.address;
+    let n = data.len();
+    if link.is_sound() & (n != 0) & (n <= 8) & (reg as usize + n <= 256) {
+        let mut out = [0u8; 17];
+        let size = frames::write_frame(link.check, address, reg, data, &mut out);
+        let frame = &out[..size];
+        if link.check {
+            if well::sent(address, frame, bus) {
+                return Ok(());
+            }
+        } else {
+            let mut back = [0u8; 8];
+            if well::echoed(address, reg, frame, &mut back[..n], bus) {
+                return crate::compare(reg, data, &back[..n]);
+            }
+        }
+    }
+    crate::write_raw(link, reg, data, bus)
+}
 
 pub fn read_one(link: Link, reg: u8, data: &mut [u8; 1], bus: &mut Bus) -> Result<(), Error>
     ensures { does (read_raw link reg «data».old) bus (gives (as_raw result) «data».new) }
 {
-    let address = link.address;
-    let sound = link.is_sound();
-    if sound & link.check {
-        let mut frame = [0u8; 2];
-        if well::got(address, reg, &mut frame, bus) {
-            return frame_one(address, frame, data);
-        }
-    } else if sound {
-        if well::got(address, reg, data, bus) {
-            return Ok(());
-        }
-    }
-    let mut held = *data;
-    let read = long::read_long(link, reg, &mut held, bus);
-    *data = held;
-    read
-}
-
-// What a frame of one byte and its check byte gives.
-fn frame_one(address: u8, frame: [u8; 2], data: &mut [u8; 1]) -> Result<(), Error>
-    ensures { gives (as_raw result) «data».new ≡ taken address «data».old frame false }
-{
-    if frame[1] != check_byte2(address << 1 | 1, frame[0]) {
-        return Err(Error::CRCMismatch);
-    }
-    *data = [frame[0]];
-    Ok(())
+    read(link, reg, data, bus)
 }
 
 pub fn read_two(link: Link, reg: u8, data: &mut [u8; 2], bus: &mut Bus) -> Result<(), Error>
     ensures { does (read_raw link reg «data».old) bus (gives (as_raw result) «data».new) }
 {
-    let address = link.address;
-    let sound = link.is_sound() & (reg <= 254);
-    if sound & link.check {
-        let mut frame = [0u8; 4];
-        if well::got(address, reg, &mut frame, bus) {
-            return frame_two(address, frame, data);
-        }
-    } else if sound {
-        if well::got(address, reg, data, bus) {
-            return Ok(());
-        }
-    }
-    let mut held = *data;
-    let read = long::read_long(link, reg, &mut held, bus);
-    *data = held;
-    read
-}
-
-// What a frame of two bytes, each with its check byte, gives.
-fn frame_two(address: u8, frame: [u8; 4], data: &mut [u8; 2]) -> Result<(), Error>
-    ensures { gives (as_raw result) «data».new ≡ taken address «data».old frame false }
-{
-    let first = frame[1] == check_byte2(address << 1 | 1, frame[0]);
-    let second = frame[3] == check_byte1(frame[2]);
-    if !(first & second) {
-        return Err(Error::CRCMismatch);
-    }
-    *data = [frame[0], frame[2]];
-    Ok(())
+    read(link, reg, data, bus)
 }
 
 pub fn write_one(link: Link, reg: u8, data: &[u8; 1], bus: &mut Bus) -> Result<(), Error>
     ensures { does (write_raw link reg «data».now) bus (as_raw result) }
 {
-    let address = link.address;
-    let sound = link.is_sound();
-    let held = *data;
-    if sound & link.check {
-        let frame = [reg, held[0], check_byte3(address << 1, reg, held[0])];
-        if well::sent(address, &frame, bus) {
-            return Ok(());
-        }
-    } else if sound {
-        let frame = [reg, held[0]];
-        let mut back = [0u8; 1];
-        if well::echoed(address, reg, &frame, &mut back, bus) {
-            return crate::compare(reg, &held, &back);
-        }
-    }
-    crate::write_raw(link, reg, &held, bus)
+    write(link, reg, data, bus)
 }
 
 pub fn write_six(link: Link, reg: u8, data: &[u8; 6], bus: &mut Bus) -> Result<(), Error>
     ensures { does (write_raw link reg «data».now) bus (as_raw result) }
 {
-    let address = link.address;
-    let sound = link.is_sound() & (reg <= 250);
-    let held = *data;
-    if sound & link.check {
-        let frame = six_checked(address, reg, held);
-        if well::sent(address, &frame, bus) {
-            return Ok(());
-        }
-    } else if sound {
-        let frame = [reg, held[0], held[1], held[2], held[3], held[4], held[5]];
-        let mut back = [0u8; 6];
-        if well::echoed(address, reg, &frame, &mut back, bus) {
-            return crate::compare(reg, &held, &back);
-        }
-    }
-    crate::write_raw(link, reg, &held, bus)
-}
-
-// The frame of a write of six bytes with their check bytes.
-fn six_checked(address: u8, reg: u8, data: [u8; 6]) -> [u8; 13]
-    ensures { result ≡ write_frame true address reg «data» }
-{
-    [
-        reg,
-        data[0],
-        check_byte3(address << 1, reg, data[0]),
-        data[1],
-        check_byte1(data[1]),
-        data[2],
-        check_byte1(data[2]),
-        data[3],
-        check_byte1(data[3]),
-        data[4],
-        check_byte1(data[4]),
-        data[5],
-        check_byte1(data[5]),
-    ]
+    write(link, reg, data, bus)
 }

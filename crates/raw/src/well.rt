@@ -20,7 +20,19 @@ fn is_done(tape: &[u8], from: usize, want: usize) -> bool
     (tape[from] == 0x01) & (numbers::be_u16(tape[from + 1], tape[from + 2]) as usize == want)
 }
 
-// A read that is done: its field into the log, its bytes over the buffer.
+// All of src over dst. By way of an array of its own the compiler makes one move of memory of it: copied straight, src and dst might overlap.
+#[inline(always)]
+fn deliver(src: &[u8], dst: &mut [u8])
+    requires { (length src.now ≤ 256) × (length dst.old ≡ length src.now) }
+    ensures { dst.new ≡ src.now }
+{
+    let n = src.len();
+    let mut held = [0u8; 256];
+    held[..n].copy_from_slice(src);
+    dst.copy_from_slice(&held[..n]);
+}
+
+// A read that is done: its field into the log, its bytes over the buffer. Where they stand is told before anything is stored.
 #[inline(always)]
 fn take(address: u8, reg: u8, buf: &mut [u8], bus: &mut Bus)
     requires buf_len_bound { length buf.old ≤ 256 }
@@ -28,14 +40,14 @@ fn take(address: u8, reg: u8, buf: &mut [u8], bus: &mut Bus)
         (outcome (read address reg (length buf.old)) (held bus.old)) (whole (length buf.old)) }
     ensures { leaves bus (ReadBy (read address reg (length buf.old)) buf.old (whole (length buf.old)) buf.new) }
 {
-    let count = buf.len();
-    transfer::log_read(bus.log, bus.at.log, address, reg, count);
-    let start = bus.at.tape + 3;
-    let end = start + count;
-    buf.copy_from_slice(&bus.tape[start..end]);
+    let at = bus.at;
+    let end = at.tape + 3 + buf.len();
+    let bytes = &bus.tape[at.tape + 3..end];
+    transfer::log_read(bus.log, at.log, address, reg, buf.len());
+    deliver(bytes, buf);
     bus.at = Cursor {
         tape: end,
-        log: bus.at.log + 7,
+        log: at.log + 7,
     };
 }
 
@@ -46,10 +58,11 @@ fn put(address: u8, frame: &[u8], bus: &mut Bus)
         (outcome (write address frame.now) (held bus.old)) (whole 0) }
     ensures { leaves bus (WrittenBy (write address frame.now) (whole 0)) }
 {
-    transfer::put_field(bus.log, bus.at.log, 0x11, address, frame);
+    let at = bus.at;
+    transfer::put_field(bus.log, at.log, 0x11, address, frame);
     bus.at = Cursor {
-        tape: bus.at.tape + 3,
-        log: bus.at.log + 4 + frame.len(),
+        tape: at.tape + 3,
+        log: at.log + 4 + frame.len(),
     };
 }
 

@@ -30,8 +30,8 @@ returns c =
     let n = length a.buf.now in
     let b = held a.bus.now in
     let t = read a.address a.reg n in
-    let copied : c.copy_from_slice.new.self ≡ take n (drop (a.bus.now.at.tape + 3) a.bus.now.tape.now) =
-    rw (add-sub_cancel_left (a.bus.now.at.tape + 3) n) at c.copy_from_slice.ensures.after in (
+    let copied : c.deliver.new.dst ≡ take n (drop (a.bus.now.at.tape + 3) a.bus.now.tape.now) =
+    rw (add-sub_cancel_left (a.bus.now.at.tape + 3) n) at c.deliver.ensures in (
       read_by t b _ _ c.requires.heard _ _ 7 c.log_read.ensures refl refl _ _ refl
           (copied ∙ sym (put_all a.buf.now _ (omega (arith, length_bytes t b _ _ c.requires.heard)))),
       refl,
