@@ -2,8 +2,9 @@
 ghost use Rattle.std.specs.Prelude.{◌≡◌, ◌+◌, ◌≤◌, nat_abs, take, IfOk};
 ghost use Rattle.numbers.specs.Numbers.{word};
 ghost use Rattle.adc.specs.Conversion.{millivolts};
-ghost use Rattle.refusals.specs.Refusal.{as_answer};
+ghost use Rattle.refusals.specs.Refusal.{answering};
 ghost use Rattle.bus.specs.Lent.{does};
+ghost use Rattle.bus.specs.Raw.{as_raw};
 ghost use Rattle.procedure.specs.Inputs.{read_inputs};
 ghost use Rattle.cells.specs.Inside.{Small, Held};
 
@@ -12,22 +13,22 @@ use bus::Bus;
 use bus::link::Link;
 use refusals::Error;
 
-// The first X are the inputs'.
+// The first X of the inputs are the chip's then.
 pub(crate) fn read_inputs(
     link: Link,
     adc: AdcTransferFunction,
+    inputs: &mut [i32; 16],
     bus: &mut Bus,
-) -> Result<[i32; 16], Error>
+) -> Result<(), Error>
     requires { (link.x ≤ 15) × (adc.gain ≤ 396) }
-    ensures read { does (read_inputs link adc) bus (as_answer (take link.x) result) }
-    ensures small { IfOk result (Small link.x) }
+    ensures read { does (read_inputs link adc) bus (answering (as_raw result) (take link.x inputs.new)) }
+    ensures small { IfOk result (λ _. Small link.x inputs.new) }
 {
     let x = link.x as usize;
     let mut buf = [0; 32];
     raw::read_raw(link, 0x0c, &mut buf[..2 * x], bus)?;
-    let mut inputs = [0; 16];
-    convert(adc, x, &buf, &mut inputs);
-    Ok(inputs)
+    convert(adc, x, &buf, inputs);
+    Ok(())
 }
 
 // The first n inputs of the bytes, eight at a time.

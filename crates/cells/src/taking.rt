@@ -1,16 +1,17 @@
 // A reading of all inputs, over the cells that the record holds.
 ghost use Rattle.std.specs.Prelude.{◌≡◌, map, ℕ, ◌≤◌, ◌<◌, true, length, get_or, take};
+ghost use Rattle.sizes.specs.Sizes.{is_count};
 ghost use Rattle.laws.specs.Over.{◌over◌};
 ghost use Rattle.bus.specs.Lent.{does};
 ghost use Rattle.bus.specs.Raw.{as_raw};
 ghost use Rattle.bq769x0.specs.Record.{leaves, is_sound};
 ghost use Rattle.bq769x0.specs.Figures.{volts};
 ghost use Rattle.procedure.specs.Inputs.{as_cells};
-ghost use Rattle.procedure.specs.Taking.{of_input};
-ghost use Rattle.cells.specs.Inside.{tests, reads};
+ghost use Rattle.procedure.specs.Taking.{of_input, taken};
+ghost use Rattle.cells.specs.Inside.{Small, tests, reads};
 
 use crate::{figures, inputs};
-use bq769x0::BQ769x0;
+use bq769x0::{BQ769x0, Readings};
 use bus::Bus;
 use refusals::Error;
 use units::MilliVolts;
@@ -38,16 +39,24 @@ pub(crate) fn read(device: &mut BQ769x0, bus: &mut Bus) -> Result<(), Error>
     ensures read { does (reads device.old) bus (leaves (as_raw result) device.new) }
     ensures pack { (device.new.link ≡ device.old.link) × (device.new.cell_count ≡ device.old.cell_count) }
 {
-    let x = device.link.x;
-    let fitted = tables::fitted(x, device.cell_count);
-    let mut inputs = inputs::read_inputs(device.link, device.adc, bus)?;
-    let mut readings = device.readings;
-    by_wiring(fitted, &inputs, &mut readings.wired);
-    readings.spread = figures::spread_of(&readings.wired[..fitted.len()]);
-    moves::in_turn(x, device.cell_count, &mut inputs);
-    store(&inputs[..x as usize], &mut readings.cells);
-    device.store_readings(readings);
+    let link = device.link;
+    let mut inputs = [0; 16];
+    inputs::read_inputs(link, device.adc, &mut inputs, bus)?;
+    take(link.x, device.cell_count, &mut inputs, &mut device.readings);
     Ok(())
+}
+
+// What a reading of all inputs leaves of the readings held; the inputs are moved on the way.
+fn take(x: u8, cell_count: u8, inputs: &mut [i32; 16], readings: &mut Readings)
+    requires pack { is_count x cell_count ≡ true }
+    requires small { Small x inputs.old }
+    ensures { readings.new ≡ taken x cell_count readings.old (take x inputs.old) }
+{
+    let fitted = tables::fitted(x, cell_count);
+    by_wiring(fitted, inputs, &mut readings.wired);
+    readings.spread = figures::spread_of(&readings.wired[..fitted.len()]);
+    moves::in_turn(x, cell_count, inputs);
+    store(&inputs[..x as usize], &mut readings.cells);
 }
 
 // The fitted inputs' millivolts, over the cells held.
