@@ -1,79 +1,33 @@
-// Up to eight registers read and written, as `read_raw` and `write_raw` do it: by the short way of `well` where it can be gone, else by the
-// long way from the start. Each is inlined where it is called, so that a count known there makes frames of that size and no loops.
-ghost use Rattle.std.specs.Prelude.{◌≡◌, false, ◌*◌, ◌≤◌, length};
+// A number of registers that is known when it is compiled: `few` for each such number once.
+ghost use Rattle.std.specs.Prelude.{◌≡◌};
 ghost use Rattle.bus.specs.Lent.{does};
 ghost use Rattle.bus.specs.Raw.{as_raw, gives, read_raw, write_raw};
-ghost use Rattle.raw.specs.Inside.{taken};
 
-use crate::{long, well};
+use crate::few;
 use bus::Bus;
 use bus::link::Link;
-use check_byte::{check_byte1, check_byte2};
 use refusals::Error;
 
-#[inline(always)]
-pub fn read(link: Link, reg: u8, data: &mut [u8], bus: &mut Bus) -> Result<(), Error>
+pub fn read<const N: usize>(
+    link: Link,
+    reg: u8,
+    data: &mut [u8; N],
+    bus: &mut Bus,
+) -> Result<(), Error>
     ensures { does (read_raw link reg «data».old) bus (gives (as_raw result) «data».new) }
 {
-    let address = link.address;
-    let n = data.len();
-    if link.is_sound() & (n <= 8) & (reg as usize + n <= 256) {
-        if !link.check {
-            if well::got(address, reg, data, bus) {
-                return Ok(());
-            }
-        } else if n != 0 {
-            let mut held = [0u8; 16];
-            let frame = &mut held[..2 * n];
-            if well::got(address, reg, frame, bus) {
-                return take_pairs(address, frame, data);
-            }
-        }
-    }
-    long::read_long(link, reg, data, bus)
+    few::read_few(link, reg, data, bus)
 }
 
-// What a frame gives, whose bytes have each its check byte behind it.
-#[inline(always)]
-fn take_pairs(address: u8, frame: &[u8], data: &mut [u8]) -> Result<(), Error>
-    requires { (1 ≤ length «data».old) × (length frame.now ≡ 2 * length «data».old) }
-    ensures { gives (as_raw result) «data».new ≡ taken address «data».old frame.now false }
-{
-    let mut right = frame[1] == check_byte2(address << 1 | 1, frame[0]);
-    for i in 1..data.len() {
-        right &= frame[2 * i + 1] == check_byte1(frame[2 * i]);
-    }
-    if !right {
-        return Err(Error::CRCMismatch);
-    }
-    for i in 0..data.len() {
-        data[i] = frame[2 * i];
-    }
-    Ok(())
-}
-
-#[inline(always)]
-pub fn write(link: Link, reg: u8, data: &[u8], bus: &mut Bus) -> Result<(), Error>
+pub fn write<const N: usize>(
+    link: Link,
+    reg: u8,
+    data: &[u8; N],
+    bus: &mut Bus,
+) -> Result<(), Error>
     ensures { does (write_raw link reg «data».now) bus (as_raw result) }
 {
-    let address = link.address;
-    let n = data.len();
-    if link.is_sound() & (n != 0) & (n <= 8) & (reg as usize + n <= 256) {
-        let mut out = [0u8; 17];
-        let size = frames::write_frame(link.check, address, reg, data, &mut out);
-        let frame = &out[..size];
-        if link.check {
-            if well::sent(address, frame, bus) {
-                return Ok(());
-            }
-        } else {
-            let mut back = [0u8; 8];
-            if well::echoed(address, reg, frame, &mut back[..n], bus) {
-                return crate::compare(reg, data, &back[..n]);
-            }
-        }
-    }
-    crate::write_raw(link, reg, data, bus)
+    few::write_few(link, reg, data, bus)
 }
 
 pub fn read_one(link: Link, reg: u8, data: &mut [u8; 1], bus: &mut Bus) -> Result<(), Error>

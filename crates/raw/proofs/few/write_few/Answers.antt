@@ -8,7 +8,7 @@ use Rattle.bus.specs.Raw.{sound, compared}
 use Rattle.bus.specs.declared.link.Link.{Link}
 use Rattle.raw.proofs.Asked.{frame_room, frame_sent}
 use Rattle.raw.proofs.Quick.{in_front_is, sent_well, echoed_well}
-use Rattle.raw.proofs.short.write.Goals as goal
+use Rattle.raw.proofs.few.write_few.Goals as goal
 
 -- sound, one to eight bytes, and the registers within the chip's
 record Fits (s : Link) (reg n : ℕ) : Type 0 where

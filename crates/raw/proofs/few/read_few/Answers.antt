@@ -8,7 +8,7 @@ use Rattle.bus.specs.Raw.{sound}
 use Rattle.bus.specs.declared.link.Link.{Link}
 use Rattle.bus.proofs.Raws.{zeros}
 use Rattle.raw.proofs.Quick.{five, read_well, frame_well}
-use Rattle.raw.proofs.short.read.Goals as goal
+use Rattle.raw.proofs.few.read_few.Goals as goal
 
 -- sound, at most eight bytes, and the registers within the chip's
 fits : (s : Link) (is : Bool) (reg n : ℕ) → is ≡ sound s → ((is && leb n 8) && leb (reg + n) 256) ≡ true

@@ -2,7 +2,7 @@
 use Rattle.std.proofs.Common.{◌≡◌, [], ◌∷◌, ◌*◌, ◌&&◌, drop}
 use Rattle.frames.specs.Frames.{read_byte, right, data_of}
 use Rattle.frames.specs.Put.{put}
-use Rattle.raw.proofs.short.take_pairs.Given as goal
+use Rattle.raw.proofs.few.take_pairs.Given as goal
 
 abbrev pub invariant-loop-i : goal.invariant-loop-i
 invariant-loop-i l = right (read_byte l.address ∷ []) l.frame ≡ (l.right && right [] (drop (2 * l.i) l.frame))

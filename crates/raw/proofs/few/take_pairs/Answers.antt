@@ -8,7 +8,7 @@ use Rattle.refusals.specs.Refusal.{value}
 use Rattle.bus.specs.Raw.{gives}
 use Rattle.raw.proofs.Asked.{taken_wrong, taken_right}
 use Rattle.raw.proofs.Pairs.{tested, tested_next, tested_all, carried, carried_all}
-use Rattle.raw.proofs.short.take_pairs.Goals as goal
+use Rattle.raw.proofs.few.take_pairs.Goals as goal
 
 pub loop-i-init : goal.loop-i-init
 loop-i-init c =
