@@ -13,4 +13,5 @@ pub mod Raws
 pub mod Reading
 pub mod Shown
 pub mod Sized
+pub mod Steps
 pub mod Throughout

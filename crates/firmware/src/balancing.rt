@@ -22,7 +22,7 @@ fn record_of(device: &[u8]) -> Result<BQ769x0, Error>
     Ok(made.device)
 }
 
-#[tactic(auto, using(setup::proofs::Seq::stepped), unfolding(crate::specs::JobBalance::job_balance_set, bus::specs::Programs::proceed, bus::specs::Programs::on_tape))]
+#[tactic(auto, using(bus::proofs::Steps::step), unfolding(crate::specs::JobBalance::job_balance_set, bus::specs::Programs::proceed, bus::specs::Programs::on_tape))]
 pub(crate) fn set(device: &[u8], set: u16, limit: u8, bus: &mut Bus) -> Result<(), Error>
     ensures { does (job_balance_set device.now set limit) bus (as_raw result) }
 {
@@ -30,7 +30,7 @@ pub(crate) fn set(device: &[u8], set: u16, limit: u8, bus: &mut Bus) -> Result<(
     balancing::balance_set(&record, set, limit, bus)
 }
 
-#[tactic(auto, using(setup::proofs::Seq::stepped), unfolding(crate::specs::JobBalance::job_balance_get, bus::specs::Programs::proceed, bus::specs::Programs::on_tape))]
+#[tactic(auto, using(bus::proofs::Steps::step), unfolding(crate::specs::JobBalance::job_balance_get, bus::specs::Programs::proceed, bus::specs::Programs::on_tape))]
 pub(crate) fn get(device: &[u8], bus: &mut Bus) -> Result<u16, Error>
     ensures { does (job_balance_get device.now) bus (as_set result) }
 {

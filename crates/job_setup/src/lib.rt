@@ -22,7 +22,7 @@ pub fn init(job: &[u8], device: &mut BQ769x0, bus: &mut Bus) -> Result<Calculate
 }
 
 // The same, without readings.
-#[tactic(auto, using(setup::proofs::Seq::stepped, crate::proofs::Made::new_by_answer), unfolding(crate::specs::JobInit::job_init, bus::specs::Programs::proceed, bus::specs::Programs::on_tape))]
+#[tactic(auto, using(bus::proofs::Steps::step, crate::proofs::Made::new_by_answer), unfolding(crate::specs::JobInit::job_init, bus::specs::Programs::proceed, bus::specs::Programs::on_tape))]
 pub fn set_up(job: &[u8], head: &mut Head, bus: &mut Bus) -> Result<CalculatedValues, Error>
     ensures { does (job_init job.now) bus (leaves (as_init result) (with_head head.new unread)) }
 {

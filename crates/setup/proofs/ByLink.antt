@@ -12,7 +12,7 @@ use Rattle.bq769x0.specs.declared.BQ769x0.{BQ769x0}
 use Rattle.procedure.specs.Calibrate.{calibrate}
 use Rattle.procedure.specs.Init.{start_counter}
 use Rattle.setup.specs.Inside.{calibration_read, counter_started}
-use Rattle.setup.proofs.Seq.{stepped}
+use Rattle.bus.proofs.Steps.{step}
 
 -- two programs of which the second tells by `tell` what the first answers
 module _ {A B : Type 0} (tell : Answer A → B) where
@@ -29,9 +29,9 @@ module _ {A B : Type 0} (tell : Answer A → B) where
     tells : (p : Prog (Answer C)) (b : Bus)
         → on_tape ((p or_leave λ r. tell (refused r)) >>= g) b ≡ told (on_tape ((p or_leave refused) >>= f) b)
     tells p b =
-        stepped p (λ r. tell (refused r)) g b
+        step p (λ r. tell (refused r)) g b
         ∙ by_answer (on_tape p b).answer (on_tape p b).bus
-        ∙ sym (ap told (stepped p refused f b))
+        ∙ sym (ap told (step p refused f b))
 
 -- ---- the stages
 abbrev pub calibrated_by : BQ769x0 → Answer AdcTransferFunction → Left Done
@@ -54,7 +54,7 @@ counted_by d values (refused r) = leaving d r
 last : (d : BQ769x0) (values : Values) (p : Prog (Answer Done)) (b : Bus)
     → on_tape ((p or_leave leaving d) >>= λ _. ret (leaves (value values) d)) b ≡ told (counted_by d values) (on_tape p b)
 unfolding proceed on_tape
-last d values p b = stepped p (leaving d) _ b ∙ by (on_tape p b).answer (on_tape p b).bus
+last d values p b = step p (leaving d) _ b ∙ by (on_tape p b).answer (on_tape p b).bus
   where
     by : (y : Answer Done) (b : Bus)
         → on_tape (proceed (leaving d) (λ _. ret (leaves (value values) d)) y) b ≡ ends (counted_by d values y) b

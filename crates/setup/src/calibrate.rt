@@ -22,7 +22,7 @@ pub fn read_adc_characteristics(device: &mut BQ769x0, bus: &mut Bus) -> Result<(
     Ok(())
 }
 
-#[tactic(auto, using(crate::proofs::Seq::stepped, crate::proofs::Seq::bytes_read), unfolding(crate::specs::Inside::calibration_read, bus::specs::Programs::proceed, bus::specs::Programs::on_tape))]
+#[tactic(auto, using(bus::proofs::Steps::step, bus::proofs::Steps::bytes), unfolding(crate::specs::Inside::calibration_read, bus::specs::Programs::proceed, bus::specs::Programs::on_tape))]
 pub(crate) fn calibrate(link: Link, bus: &mut Bus) -> Result<AdcTransferFunction, Error>
     ensures { does (calibration_read link) bus (as_calibration result) }
 {

@@ -31,7 +31,7 @@ pub fn init(device: &mut BQ769x0, config: Config, bus: &mut Bus) -> Result<Calcu
 }
 
 // The same on the head alone, with no test that the record is sound.
-#[tactic(auto, using(crate::proofs::Seq::stepped, bus::proofs::Programs::on_tape_bind, crate::proofs::ByLink::calibrate_tells), unfolding(procedure::specs::Init::onward, procedure::specs::Init::onward_by, bus::specs::Programs::proceed, bus::specs::Programs::on_tape))]
+#[tactic(auto, using(bus::proofs::Steps::step, bus::proofs::Programs::on_tape_bind, crate::proofs::ByLink::calibrate_tells), unfolding(procedure::specs::Init::onward, procedure::specs::Init::onward_by, bus::specs::Programs::proceed, bus::specs::Programs::on_tape))]
 pub fn set_up(head: &mut Head, config: Config, bus: &mut Bus) -> Result<CalculatedValues, Error>
     ensures { (readings : Readings) → does (set_up steps_for (with_head head.old readings) config) bus
         (leaves (as_init result) (with_head head.new readings)) }

@@ -15,7 +15,7 @@ use plan::{CalculatedValues, Config, Steps, six_bytes};
 use refusals::Error;
 
 // The six bytes, and the counter after them.
-#[tactic(auto, using(crate::proofs::Seq::stepped), unfolding(procedure::specs::Init::protect, bus::specs::Programs::proceed, bus::specs::Programs::on_tape))]
+#[tactic(auto, using(bus::proofs::Steps::step), unfolding(procedure::specs::Init::protect, bus::specs::Programs::proceed, bus::specs::Programs::on_tape))]
 pub(crate) fn protect(
     head: &mut Head,
     config: Config,
@@ -33,7 +33,7 @@ pub(crate) fn protect(
 }
 
 // 05, with what was read kept.
-#[tactic(auto, using(crate::proofs::Seq::stepped, crate::proofs::Seq::bytes_read), unfolding(crate::specs::Inside::counter_started, bus::specs::Programs::proceed, bus::specs::Programs::on_tape))]
+#[tactic(auto, using(bus::proofs::Steps::step, bus::proofs::Steps::bytes), unfolding(crate::specs::Inside::counter_started, bus::specs::Programs::proceed, bus::specs::Programs::on_tape))]
 fn start_counter(link: Link, bus: &mut Bus) -> Result<(), Error>
     ensures { does (counter_started link) bus (as_raw result) }
 {

@@ -6,7 +6,7 @@ use Rattle.bus.proofs.Programs.{on_tape_bind}
 use Rattle.layout.specs.Cells.{has_room, stored}
 use Rattle.layout.proofs.Room.{stored_first}
 use Rattle.firmware.specs.JobCells.{read_cells}
-use Rattle.setup.proofs.Seq.{stepped}
+use Rattle.bus.proofs.Steps.{step}
 use Rattle.firmware.proofs.crate_list.read_cells.Goals as goal
 
 pub returns : goal.returns
@@ -17,4 +17,4 @@ returns c =
     let all : length c.cell_voltages.new.list ≡ 15 = search rules in
     let stored_is : c.put_cells.new.list ≡ stored n c.cell_voltages.new.list c.args.list.now =
     c.put_cells.ensures ∙ stored_first n c.cell_voltages.new.list c.args.list.now all room in
-    grind (arith, stepped, on_tape_bind, stored_is)
+    grind (arith, step, on_tape_bind, stored_is)
