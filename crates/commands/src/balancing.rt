@@ -18,7 +18,7 @@ pub fn enable_balancing(device: &BQ769x0, cells: u8, bus: &mut Bus) -> Result<()
     if !device.is_sound() {
         return Err(Error::BadDevice);
     }
-    short::write_one(device.link, 0x01, &[cells], bus)
+    short::write(device.link, 0x01, &[cells], bus)
 }
 
 pub fn balancing_state(device: &BQ769x0, bus: &mut Bus) -> Result<u8, Error>

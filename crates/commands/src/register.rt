@@ -20,7 +20,7 @@ pub(crate) fn read_register(device: &BQ769x0, reg: u8, bus: &mut Bus) -> Result<
         return Err(Error::BadDevice);
     }
     let mut data = [0u8; 1];
-    raw::short::read_one(device.link, reg, &mut data, bus)?;
+    raw::short::read(device.link, reg, &mut data, bus)?;
     Ok(data[0])
 }
 
@@ -35,5 +35,5 @@ pub(crate) fn change_bits(
     ensures { does (soundly device.now (refused nine) (changing device.now.link reg (putting mask bits))) bus (as_raw result) }
 {
     let byte = read_register(device, reg, bus)?;
-    raw::short::write_one(device.link, reg, &[byte & !mask | bits], bus)
+    raw::short::write(device.link, reg, &[byte & !mask | bits], bus)
 }

@@ -15,7 +15,7 @@ pub fn ship_enter(device: &BQ769x0, bus: &mut Bus) -> Result<(), Error>
         return Err(Error::BadDevice);
     }
     let link = device.link;
-    short::write_one(link, 0x04, &[0b0000_0000], bus)?;
-    short::write_one(link, 0x04, &[0b0000_0001], bus)?;
-    short::write_one(link, 0x04, &[0b0000_0010], bus)
+    short::write(link, 0x04, &[0b0000_0000], bus)?;
+    short::write(link, 0x04, &[0b0000_0001], bus)?;
+    short::write(link, 0x04, &[0b0000_0010], bus)
 }

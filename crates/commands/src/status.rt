@@ -29,5 +29,5 @@ pub fn sys_stat_reset(device: &BQ769x0, flags: SysStat, bus: &mut Bus) -> Result
     if flags.has_reserved() {
         return Err(Error::UnknownFlags);
     }
-    raw::short::write_one(device.link, 0x00, &[flags.bits], bus)
+    raw::short::write(device.link, 0x00, &[flags.bits], bus)
 }

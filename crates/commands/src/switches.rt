@@ -43,5 +43,5 @@ fn switch_bit(device: &BQ769x0, mask: u8, enable: bool, bus: &mut Bus) -> Result
         return Ok(());
     }
     let changed = [bits::switched(mask, enable, byte)];
-    raw::short::write_one(device.link, BQ769x0::SYS_CTRL2, &changed, bus)
+    raw::short::write(device.link, BQ769x0::SYS_CTRL2, &changed, bus)
 }

@@ -13,6 +13,6 @@ pub(crate) fn read_word(link: Link, reg: u8, bus: &mut Bus) -> Result<u16, Error
     ensures { does (read_word link reg) bus (as_word result) }
 {
     let mut bytes = [0u8; 2];
-    raw::short::read_two(link, reg, &mut bytes, bus)?;
+    raw::short::read(link, reg, &mut bytes, bus)?;
     Ok(u16::from_be_bytes(bytes))
 }

@@ -29,27 +29,3 @@ pub fn write<const N: usize>(
 {
     few::write_few(link, reg, data, bus)
 }
-
-pub fn read_one(link: Link, reg: u8, data: &mut [u8; 1], bus: &mut Bus) -> Result<(), Error>
-    ensures { does (read_raw link reg «data».old) bus (gives (as_raw result) «data».new) }
-{
-    read(link, reg, data, bus)
-}
-
-pub fn read_two(link: Link, reg: u8, data: &mut [u8; 2], bus: &mut Bus) -> Result<(), Error>
-    ensures { does (read_raw link reg «data».old) bus (gives (as_raw result) «data».new) }
-{
-    read(link, reg, data, bus)
-}
-
-pub fn write_one(link: Link, reg: u8, data: &[u8; 1], bus: &mut Bus) -> Result<(), Error>
-    ensures { does (write_raw link reg «data».now) bus (as_raw result) }
-{
-    write(link, reg, data, bus)
-}
-
-pub fn write_six(link: Link, reg: u8, data: &[u8; 6], bus: &mut Bus) -> Result<(), Error>
-    ensures { does (write_raw link reg «data».now) bus (as_raw result) }
-{
-    write(link, reg, data, bus)
-}

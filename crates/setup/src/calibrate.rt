@@ -28,7 +28,7 @@ pub(crate) fn calibrate(link: Link, bus: &mut Bus) -> Result<AdcTransferFunction
 {
     let mut gain1_offset = [0u8; 2];
     let mut gain2 = [0u8; 1];
-    raw::short::read_two(link, BQ769x0::ADCGAIN1, &mut gain1_offset, bus)?;
-    raw::short::read_one(link, 0x59, &mut gain2, bus)?;
+    raw::short::read(link, BQ769x0::ADCGAIN1, &mut gain1_offset, bus)?;
+    raw::short::read(link, 0x59, &mut gain2, bus)?;
     Ok(AdcTransferFunction::from_registers(gain1_offset[0], gain1_offset[1], gain2[0]))
 }

@@ -26,7 +26,7 @@ pub(crate) fn protect(
         (leaves (as_init result) (with_head head.new readings)) }
 {
     let plan = six_bytes::plan(head.adc, config, steps)?;
-    raw::short::write_six(head.link, BQ769x0::PROTECT1, &plan.regs, bus)?;
+    raw::short::write(head.link, BQ769x0::PROTECT1, &plan.regs, bus)?;
     head.store_shunt(config.shunt);
     start_counter(head.link, bus)?;
     Ok(plan.values)
@@ -38,7 +38,7 @@ fn start_counter(link: Link, bus: &mut Bus) -> Result<(), Error>
     ensures { does (counter_started link) bus (as_raw result) }
 {
     let mut sysctrl2 = [0u8; 1];
-    raw::short::read_one(link, BQ769x0::SYS_CTRL2, &mut sysctrl2, bus)?;
+    raw::short::read(link, BQ769x0::SYS_CTRL2, &mut sysctrl2, bus)?;
     let on = [sysctrl2[0] | 0b0100_0000]; // !!CC_EN!!
-    raw::short::write_one(link, BQ769x0::SYS_CTRL2, &on, bus)
+    raw::short::write(link, BQ769x0::SYS_CTRL2, &on, bus)
 }
