@@ -5,9 +5,10 @@ use mathlib.Core.Bool.{Bool, true, false, ◌&&◌}
 use Prim.Native.Nat.{ℕ, suc, ◌+◌, ◌-◌, ◌≤◌, ◌<◌}
 use mathlib.Core.List.{List, [], ◌∷◌}
 use Rattle.std.specs.Prelude.{Err}
-use native.Mathlib.Numerals.{add-one, add-two, add-three}
 use native.Mathlib.Omega.{arith}
+use native.Mathlib.Nat.{add-zero}
 use lib.ListN.{length, take, drop, get_or, length-drop}
+use Rattle.std.proofs.lemmas.List.{get_or-drop}
 use lib.Seq.{drop-cons, length-take-le}
 use lib.Dec.{T, eqb, leb, eqb→eq, leb→le}
 use borrow.Author.Tests.{le-leb, lt-leb}
@@ -76,44 +77,44 @@ module _ (want tag high low : ℕ) (bytes : List ℕ) where
         within = within h is_done is_fault (λ t. t) (λ t. t);
       }
 
--- ---- the same on a tape, from a position on
-module _ (want at : ℕ) (l : List ℕ) where
+-- ---- the same of any bytes
+module _ (want : ℕ) (bytes : List ℕ) where
   abbrev said_len : ℕ
-  said_len = word (get_or l (at + 1) 0) (get_or l (at + 2) 0)
+  said_len = word (get_or bytes 1 0) (get_or bytes 2 0)
 
-  head : at + 3 ≤ length l → drop at l ≡ get_or l at 0 ∷ get_or l (at + 1) 0 ∷ get_or l (at + 2) 0 ∷ drop (at + 3) l
+  head : 3 ≤ length bytes → bytes ≡ get_or bytes 0 0 ∷ get_or bytes 1 0 ∷ get_or bytes 2 0 ∷ drop 3 bytes
   head h =
-      let h0 : at < length l = omega arith in
-      let h1 : suc at < length l = omega arith in
-      let h2 : suc (suc at) < length l = omega arith in
-      rw (add-one, add-two, add-three, drop-cons l at 0 h0, drop-cons l (suc at) 0 h1, drop-cons l (suc (suc at)) 0 h2)
+      let h0 : 0 < length bytes = omega arith in
+      let h1 : 1 < length bytes = omega arith in
+      let h2 : 2 < length bytes = omega arith in
+      drop-cons bytes 0 0 h0
+      ∙ ap (λ (l : List ℕ). get_or bytes 0 0 ∷ l) (drop-cons bytes 1 0 h1)
+      ∙ ap (λ (l : List ℕ). get_or bytes 0 0 ∷ get_or bytes 1 0 ∷ l) (drop-cons bytes 2 0 h2)
 
-  pub at_end : length l ≤ at → says want (drop at l) ≡ stopped (no 16 [])
-  at_end h = ended want (drop at l) (simp length-drop (omega arith))
+  pub none_left : length bytes ≡ 0 → says want bytes ≡ stopped (no 16 [])
+  none_left h = ended want bytes h
 
-  pub at_short : at < length l → length l - at < 3 → says want (drop at l) ≡ stopped (no 15 [])
-  at_short h k = says_short want (drop at l) (simp length-drop (omega arith)) (simp length-drop (omega arith))
+  pub cut : 3 ≤ length bytes → length bytes - 3 < said_len → says want bytes ≡ stopped (no 15 [])
+  cut h k = ap (says want) (head h) ∙ says_cut want (get_or bytes 0 0) _ _ (drop 3 bytes) (simp length-drop (omega arith))
 
-  pub at_cut : at + 3 ≤ length l → length l - at - 3 < said_len → says want (drop at l) ≡ stopped (no 15 [])
-  at_cut h k =
-      ap (says want) (head h)
-      ∙ says_cut want (get_or l at 0) _ _ (drop (at + 3) l) (simp length-drop (omega arith))
+  pub judged_whole : 3 ≤ length bytes → said_len ≤ length bytes - 3
+      → Heard want bytes (says want bytes) (judged want (get_or bytes 0 0) said_len)
+  judged_whole h k =
+      subst (λ (l : List ℕ). Heard want l (says want l) (judged want (get_or bytes 0 0) said_len)) (sym (head h))
+      (says_whole want (get_or bytes 0 0) _ _ (drop 3 bytes) (simp length-drop (omega arith)))
 
-  pub at_whole : at + 3 ≤ length l → said_len ≤ length l - at - 3
-      → Heard want (drop at l) (says want (drop at l)) (judged want (get_or l at 0) said_len)
-  at_whole h k =
-      subst (λ (rest : List ℕ). Heard want rest (says want rest) (judged want (get_or l at 0) said_len)) (sym (head h))
-      (says_whole want (get_or l at 0) _ _ (drop (at + 3) l) (simp length-drop (omega arith)))
-
-  -- a field that is whole, and says that all was done
-  pub at_done : (len : ℕ) → len ≡ said_len → at ≤ length l → want + 3 ≤ length l - at
-      → eqb (get_or l at 0) 0x01 && eqb len want ≡ true
-      → Heard want (drop at l) (says want (drop at l)) (whole want)
-  at_done len is h k e =
-      let all : len ≡ want = eqb→eq len want (both_right (eqb (get_or l at 0) 0x01) (eqb len want) (subst T (sym e) tt)) in
-      let told : judged want (get_or l at 0) len ≡ whole want = rw e (ap whole all) in
-      subst (Heard want (drop at l) (says want (drop at l))) (ap (judged want (get_or l at 0)) (sym is) ∙ told)
-      (at_whole (omega arith) (omega (arith, is)))
+-- ---- and on a tape, from a position on: a field that is whole, and says that all was done
+pub at_done : (want at : ℕ) (l : List ℕ) (told_len : ℕ) → told_len ≡ word (get_or l (at + 1) 0) (get_or l (at + 2) 0) → want + 3 + at ≤ length l
+    → eqb (get_or l at 0) 0x01 && eqb told_len want ≡ true
+    → Heard want (drop at l) (says want (drop at l)) (whole want)
+at_done want at l told_len is h e =
+    let bytes = drop at l in
+    let all : told_len ≡ want = eqb→eq told_len want (both_right (eqb (get_or l at 0) 0x01) (eqb told_len want) (subst T (sym e) tt)) in
+    let told : judged want (get_or l at 0) told_len ≡ whole want = rw e (ap whole all) in
+    let there : word (get_or bytes 1 0) (get_or bytes 2 0) ≡ told_len = rw (get_or-drop at l 1 0, get_or-drop at l 2 0) (sym is) in
+    subst (Heard want bytes (says want bytes))
+    (ap (λ (t : ℕ). judged want t (word (get_or bytes 1 0) (get_or bytes 2 0))) (get_or-drop at l 0 0 ∙ ap (λ (j : ℕ). get_or l j 0) (add-zero at)) ∙ ap (judged want (get_or l at 0)) there ∙ told)
+    (judged_whole want bytes (simp length-drop (omega arith)) (simp length-drop (omega (arith, there, all))))
 
 -- a reply that stops, from the number that the tape's rest, or the log's room, gives
 pub stops : (want : ℕ) (rest : List ℕ) (answer : Outcome) (e : Error) → answer ≡ stopped (as_refusal e)

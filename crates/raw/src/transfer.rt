@@ -32,30 +32,28 @@ impl Made {
 fn judge(want: usize, tag: u8, len: usize) -> Result<Made, Error>
     ensures { result ≡ judged want tag len }
 {
-    if (tag == 0x01) & (len == want) {
-        return Ok(Made { fault: false, len });
+    match tag {
+        0x01 if len == want => Ok(Made { fault: false, len }),
+        0x02 if len <= want => Ok(Made { fault: true, len }),
+        _ => Err(Error::BadTape),
     }
-    if (tag == 0x02) & (len <= want) {
-        return Ok(Made { fault: true, len });
-    }
-    Err(Error::BadTape)
 }
 
 // 16, 15, then what the tape's next field says.
 fn hear(tape: &[u8], at: usize, want: usize) -> Result<Made, Error>
     ensures { Heard want (drop at tape.now) (says want (drop at tape.now)) result }
 {
-    if tape.len() <= at {
-        return Err(Error::TapeEnded);
+    match &tape[at.min(tape.len())..] {
+        [] => Err(Error::TapeEnded),
+        [tag, high, low, value @ ..] => {
+            let len = numbers::be_u16(*high, *low) as usize;
+            if value.len() < len {
+                return Err(Error::BadTape);
+            }
+            judge(want, *tag, len)
+        }
+        _ => Err(Error::BadTape),
     }
-    if tape.len() - at < 3 {
-        return Err(Error::BadTape);
-    }
-    let len = numbers::be_u16(tape[at + 1], tape[at + 2]) as usize;
-    if tape.len() - at - 3 < len {
-        return Err(Error::BadTape);
-    }
-    judge(want, tape[at], len)
 }
 
 #[inline(always)]

@@ -9,4 +9,4 @@ pub returns : goal.returns
 returns c e =
     let a = c.args in
     let there : a.from + (a.want + 3) ≤ length a.tape.now = leb-true _ _ (sym c.has_room.ensures ∙ c.if-not-has_room.false) in
-    at_done a.want a.from a.tape.now _ c.be_u16.ensures (omega arith) (omega arith) e
+    at_done a.want a.from a.tape.now _ c.be_u16.ensures (omega arith) e
