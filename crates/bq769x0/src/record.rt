@@ -228,12 +228,7 @@ impl Readings {
 fn check_device(x: u8, dev_address: u8, cell_count: u8) -> Result<(), Error>
     ensures { as_made result ≡ device_allowed x dev_address cell_count }
 {
-    if !sizes::is_size(x) {
-        return Err(Error::BadDevice);
-    }
-    if !sizes::is_count(x, cell_count) {
-        return Err(Error::BadCellCount);
-    }
+    wiring::questions::allowed(x, cell_count)?;
     if 127 < dev_address {
         return Err(Error::BadAddress);
     }
