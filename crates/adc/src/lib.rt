@@ -2,6 +2,5 @@
 #![tactic(auto)]
 
 pub mod counter;
-mod round;
 pub mod transfer;
 pub mod trips;

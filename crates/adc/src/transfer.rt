@@ -5,7 +5,6 @@ ghost use Rattle.adc.specs.Registers.{calibration};
 ghost use Rattle.adc.specs.Conversion.{millivolts, pack_millivolts};
 ghost use Rattle.adc.specs.Trips.{ov_trip, uv_trip, limits, asked_reading, as_asked};
 
-use crate::round;
 use refusals::Error;
 use units::MilliVolts;
 
@@ -79,11 +78,11 @@ impl AdcTransferFunction {
     pub fn asked_reading(self, asked: MilliVolts) -> Result<i64, Error>
         ensures { as_asked result ≡ asked_reading self.gain self.offset asked.0 }
     {
-        let gain = self.gain;
-        if gain == 0 {
+        if self.gain == 0 {
             return Err(Error::BadDevice);
         }
-        Ok(round::floor_div((asked.0 as i64 - self.offset as i64) * 1000, gain).quotient)
+        let scaled = (asked.0 as i64 - self.offset as i64) * 1000;
+        Ok(scaled.div_euclid(self.gain as i64))
     }
 }
 

@@ -2,8 +2,6 @@
 ghost use Rattle.std.specs.Prelude.{◌≡◌};
 ghost use Rattle.adc.specs.Trips.{ov_trip, uv_trip, trip_code};
 
-use crate::round;
-
 pub fn ov_trip_reading(code: u8) -> u16
     ensures { result ≡ ov_trip code }
 {
@@ -19,5 +17,5 @@ pub fn uv_trip_reading(code: u8) -> u16
 pub fn trip_code(reading: i64) -> u8
     ensures { result ≡ trip_code reading }
 {
-    round::floor_div(round::floor_div(reading, 16).quotient, 256).remainder as u8
+    reading.div_euclid(16).rem_euclid(256) as u8
 }
