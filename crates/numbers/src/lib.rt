@@ -7,7 +7,7 @@ ghost use Rattle.numbers.specs.Numbers.{word, word4, word8, four, eight, as_i8, 
 pub fn be_u16(high: u8, low: u8) -> u16
     ensures { result ≡ word high low }
 {
-    u16::from_be_bytes([high, low])
+    high as u16 * 256 + low as u16
 }
 
 pub fn be_i16(high: u8, low: u8) -> i16
@@ -19,7 +19,7 @@ pub fn be_i16(high: u8, low: u8) -> i16
 pub fn be_u32(b0: u8, b1: u8, b2: u8, b3: u8) -> u32
     ensures { result ≡ word4 b0 b1 b2 b3 }
 {
-    u32::from_be_bytes([b0, b1, b2, b3])
+    be_u16(b0, b1) as u32 * 65536 + be_u16(b2, b3) as u32
 }
 
 // Eight bytes, by the numbers of their upper and their lower four.

@@ -89,6 +89,7 @@ fn with_delays(config: Config, range_bits: u8, scd_bits: u8, ocd_bits: u8) -> [u
     ]
 }
 
+#[inline(always)]
 fn values(
     adc: AdcTransferFunction,
     config: Config,

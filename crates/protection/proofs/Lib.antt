@@ -1,6 +1,5 @@
 pub mod Walk
 pub mod Agree
-mod Codes
 pub mod DelayNames
 pub mod InRange
 pub mod Ladder

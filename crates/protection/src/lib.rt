@@ -28,20 +28,16 @@ pub trait Threshold: Copy {
     fn mv(self) -> u8
         ensures { result ≡ mv_of self };
 
+    fn range(self) -> OCDSCDRange
+        ensures { result ≡ range_for lower upper (mv_of self) };
+
     fn codes(self) -> Codes
         ensures { result ≡ codes_for lower upper (mv_of self) };
 
     fn from_mv(mv_threshold: u8) -> Self
         ensures { mv_of result ≡ step (lower ++ upper) mv_threshold };
 
-    #[tactic(auto, using(crate::proofs::Codes::range_is))]
-    fn range(self) -> OCDSCDRange
-        ensures { result ≡ range_for lower upper (mv_of self) }
-    {
-        self.codes().range()
-    }
-
-    #[tactic(auto, using(crate::proofs::Codes::number_is))]
+    #[tactic(auto, unfolding(crate::specs::Ranges::code_for))]
     fn bits(self, range: OCDSCDRange) -> Result<u8, Error>
         ensures { as_number result ≡ code_for lower upper range (mv_of self) }
     {

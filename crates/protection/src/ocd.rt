@@ -5,7 +5,7 @@ ghost use Rattle.protection.specs.Steps.{ocd_lower, ocd_upper};
 ghost use Rattle.protection.specs.Ocd.{mv_of};
 
 use crate::Threshold;
-use crate::range::Codes;
+use crate::range::{Codes, OCDSCDRange};
 
 #[derive(Clone, Copy)]
 pub enum OCDThreshold {
@@ -47,33 +47,56 @@ impl Threshold for OCDThreshold {
         self as u8
     }
 
+    #[tactic(auto, unfolding(crate::specs::Ranges::range_for))]
+    fn range(self) -> OCDSCDRange {
+        match self {
+            OCDThreshold::_17mV
+            | OCDThreshold::_22mV
+            | OCDThreshold::_28mV
+            | OCDThreshold::_33mV
+            | OCDThreshold::_39mV
+            | OCDThreshold::_44mV
+            | OCDThreshold::_50mV => OCDSCDRange::Unknown,
+            OCDThreshold::_56mV
+            | OCDThreshold::_61mV
+            | OCDThreshold::_67mV
+            | OCDThreshold::_72mV
+            | OCDThreshold::_78mV
+            | OCDThreshold::_83mV
+            | OCDThreshold::_89mV
+            | OCDThreshold::_94mV
+            | OCDThreshold::_100mV => OCDSCDRange::Upper,
+            _ => OCDSCDRange::Lower,
+        }
+    }
+
     fn codes(self) -> Codes {
         match self {
-            OCDThreshold::_8mV => Codes::Lower(0),
-            OCDThreshold::_11mV => Codes::Lower(1),
-            OCDThreshold::_14mV => Codes::Lower(2),
-            OCDThreshold::_17mV => Codes::Both(3, 0),
-            OCDThreshold::_19mV => Codes::Lower(4),
-            OCDThreshold::_22mV => Codes::Both(5, 1),
-            OCDThreshold::_25mV => Codes::Lower(6),
-            OCDThreshold::_28mV => Codes::Both(7, 2),
-            OCDThreshold::_31mV => Codes::Lower(8),
-            OCDThreshold::_33mV => Codes::Both(9, 3),
-            OCDThreshold::_36mV => Codes::Lower(10),
-            OCDThreshold::_39mV => Codes::Both(11, 4),
-            OCDThreshold::_42mV => Codes::Lower(12),
-            OCDThreshold::_44mV => Codes::Both(13, 5),
-            OCDThreshold::_47mV => Codes::Lower(14),
-            OCDThreshold::_50mV => Codes::Both(15, 6),
-            OCDThreshold::_56mV => Codes::Upper(7),
-            OCDThreshold::_61mV => Codes::Upper(8),
-            OCDThreshold::_67mV => Codes::Upper(9),
-            OCDThreshold::_72mV => Codes::Upper(10),
-            OCDThreshold::_78mV => Codes::Upper(11),
-            OCDThreshold::_83mV => Codes::Upper(12),
-            OCDThreshold::_89mV => Codes::Upper(13),
-            OCDThreshold::_94mV => Codes::Upper(14),
-            OCDThreshold::_100mV => Codes::Upper(15),
+            OCDThreshold::_8mV => Codes(0, 0),
+            OCDThreshold::_11mV => Codes(1, 0),
+            OCDThreshold::_14mV => Codes(2, 0),
+            OCDThreshold::_17mV => Codes(3, 0),
+            OCDThreshold::_19mV => Codes(4, 0),
+            OCDThreshold::_22mV => Codes(5, 1),
+            OCDThreshold::_25mV => Codes(6, 0),
+            OCDThreshold::_28mV => Codes(7, 2),
+            OCDThreshold::_31mV => Codes(8, 0),
+            OCDThreshold::_33mV => Codes(9, 3),
+            OCDThreshold::_36mV => Codes(10, 0),
+            OCDThreshold::_39mV => Codes(11, 4),
+            OCDThreshold::_42mV => Codes(12, 0),
+            OCDThreshold::_44mV => Codes(13, 5),
+            OCDThreshold::_47mV => Codes(14, 0),
+            OCDThreshold::_50mV => Codes(15, 6),
+            OCDThreshold::_56mV => Codes(0, 7),
+            OCDThreshold::_61mV => Codes(0, 8),
+            OCDThreshold::_67mV => Codes(0, 9),
+            OCDThreshold::_72mV => Codes(0, 10),
+            OCDThreshold::_78mV => Codes(0, 11),
+            OCDThreshold::_83mV => Codes(0, 12),
+            OCDThreshold::_89mV => Codes(0, 13),
+            OCDThreshold::_94mV => Codes(0, 14),
+            OCDThreshold::_100mV => Codes(0, 15),
         }
     }
 

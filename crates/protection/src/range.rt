@@ -1,8 +1,7 @@
 // The two ranges of steps, of which the chip is set to one.
 ghost use Rattle.std.specs.Prelude.{◌≡◌};
 ghost use Rattle.protection.specs.Answers.{as_number, as_range};
-ghost use Rattle.protection.specs.Inside.{range_of, number_in};
-ghost use Rattle.protection.specs.Ranges.{range_bits, has_lower, has_upper, for_both};
+ghost use Rattle.protection.specs.Ranges.{range_bits, has_lower, has_upper, for_both, in_range};
 
 use refusals::Error;
 
@@ -50,35 +49,18 @@ impl OCDSCDRange {
     }
 }
 
-// A step's code in each range that has it.
+// A step's codes in the lower range and in the upper one, 0 where the range lacks the step.
 #[derive(Clone, Copy)]
-pub enum Codes {
-    Lower(u8),
-    Upper(u8),
-    Both(u8, u8),
-}
+pub struct Codes(pub u8, pub u8);
 
 impl Codes {
-    // Unknown where both ranges have the step, so that either will do.
-    pub fn range(self) -> OCDSCDRange
-        ensures { result ≡ range_of self }
-    {
-        match self {
-            Codes::Lower(_) => OCDSCDRange::Lower,
-            Codes::Upper(_) => OCDSCDRange::Upper,
-            Codes::Both(_, _) => OCDSCDRange::Unknown,
-        }
-    }
-
-    // 0 where the range lacks the step.
     pub fn code_in(self, range: OCDSCDRange) -> Result<u8, Error>
-        ensures { as_number result ≡ number_in self range }
+        ensures { as_number result ≡ in_range range self.0 self.1 }
     {
-        match (range, self) {
-            (OCDSCDRange::Unknown, _) => Err(Error::UnknownRange),
-            (OCDSCDRange::Lower, Codes::Lower(code) | Codes::Both(code, _)) => Ok(code),
-            (OCDSCDRange::Upper, Codes::Upper(code) | Codes::Both(_, code)) => Ok(code),
-            _ => Ok(0),
+        match range {
+            OCDSCDRange::Lower => Ok(self.0),
+            OCDSCDRange::Upper => Ok(self.1),
+            OCDSCDRange::Unknown => Err(Error::UnknownRange),
         }
     }
 }

@@ -5,7 +5,7 @@ ghost use Rattle.protection.specs.Steps.{scd_lower, scd_upper};
 ghost use Rattle.protection.specs.Scd.{mv_of};
 
 use crate::Threshold;
-use crate::range::Codes;
+use crate::range::{Codes, OCDSCDRange};
 
 #[derive(Clone, Copy)]
 pub enum SCDThreshold {
@@ -35,21 +35,34 @@ impl Threshold for SCDThreshold {
         self as u8
     }
 
+    #[tactic(auto, unfolding(crate::specs::Ranges::range_for))]
+    fn range(self) -> OCDSCDRange {
+        match self {
+            SCDThreshold::_44mV | SCDThreshold::_67mV | SCDThreshold::_89mV => OCDSCDRange::Unknown,
+            SCDThreshold::_111mV
+            | SCDThreshold::_133mV
+            | SCDThreshold::_155mV
+            | SCDThreshold::_178mV
+            | SCDThreshold::_200mV => OCDSCDRange::Upper,
+            _ => OCDSCDRange::Lower,
+        }
+    }
+
     fn codes(self) -> Codes {
         match self {
-            SCDThreshold::_22mV => Codes::Lower(0),
-            SCDThreshold::_33mV => Codes::Lower(1),
-            SCDThreshold::_44mV => Codes::Both(2, 0),
-            SCDThreshold::_56mV => Codes::Lower(3),
-            SCDThreshold::_67mV => Codes::Both(4, 1),
-            SCDThreshold::_78mV => Codes::Lower(5),
-            SCDThreshold::_89mV => Codes::Both(6, 2),
-            SCDThreshold::_100mV => Codes::Lower(7),
-            SCDThreshold::_111mV => Codes::Upper(3),
-            SCDThreshold::_133mV => Codes::Upper(4),
-            SCDThreshold::_155mV => Codes::Upper(5),
-            SCDThreshold::_178mV => Codes::Upper(6),
-            SCDThreshold::_200mV => Codes::Upper(7),
+            SCDThreshold::_22mV => Codes(0, 0),
+            SCDThreshold::_33mV => Codes(1, 0),
+            SCDThreshold::_44mV => Codes(2, 0),
+            SCDThreshold::_56mV => Codes(3, 0),
+            SCDThreshold::_67mV => Codes(4, 1),
+            SCDThreshold::_78mV => Codes(5, 0),
+            SCDThreshold::_89mV => Codes(6, 2),
+            SCDThreshold::_100mV => Codes(7, 0),
+            SCDThreshold::_111mV => Codes(0, 3),
+            SCDThreshold::_133mV => Codes(0, 4),
+            SCDThreshold::_155mV => Codes(0, 5),
+            SCDThreshold::_178mV => Codes(0, 6),
+            SCDThreshold::_200mV => Codes(0, 7),
         }
     }
 
