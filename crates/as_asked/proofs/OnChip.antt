@@ -21,7 +21,8 @@ use Rattle.plan.specs.Steps.{InMv, steps_for}
 use Rattle.plan.specs.declared.Config.{Config}
 use Rattle.plan.proofs.AsAsked.{steps_given, as_asked_is}
 use Rattle.plan.proofs.Six.{plan_six}
-use Rattle.bus.specs.Lent.{LentBus, does}
+use Rattle.bus.specs.Transfers.{bus_of}
+use Rattle.bus.specs.Programs.{ran, on_tape}
 use Rattle.bq769x0.specs.Record.{Left, leaving, is_sound}
 use Rattle.bq769x0.specs.Registers.{soundly}
 use Rattle.bq769x0.specs.declared.BQ769x0.{BQ769x0}
@@ -36,8 +37,7 @@ use Rattle.chip.proofs.Quits.{Refuses, refuses_by}
 use Rattle.chip.proofs.RegisterBytes.{get_d_byte}
 use Rattle.chip.proofs.Shows.{held_is, held_put}
 use Rattle.recovery.specs.Recovery.{calibration_of, plan_on, counted}
-use Rattle.runs.specs.Calls.{lent_call, left_by}
-use Rattle.runs.proofs.Calls.{promised}
+use Rattle.runs.specs.Calls.{left_by}
 use Rattle.runs.proofs.Calls as runs
 use Rattle.recovery.specs.Runs.{Call, Run}
 use Rattle.recovery.proofs.Asked.{init_fine}
@@ -160,9 +160,9 @@ module _ (config : Config) (d : BQ769x0) {w : Wired} {call : Call} (run : Run st
       (sym answered ∙ ap (λ (l : Left Values). l.answer) same.answer)
 
 -- so of a call that kept its promise
-module _ (d : BQ769x0) (config : Config) (bus : LentBus) (left : Left Values) where
-  pub on_every_chip : does (init_by steps_for d config) bus left → SetOnEveryChip config d (lent_call bus left)
-  on_every_chip kept w rest v m bytes answers room accepted =
-      set_on_chip config d {call = lent_call bus left}
-      (record { rest = rest; answers = answers; room = room; promise = promised (init_by steps_for d config) bus left kept })
-      m bytes v accepted
+module _ (d : BQ769x0) (config : Config) (call : Call) where
+  pub on_every_chip : ran call.gave call.tape call.log' call.at'
+      ≡ on_tape (init_by steps_for d config) (bus_of call.tape call.log call.at)
+      → SetOnEveryChip config d call
+  on_every_chip promise w rest v m bytes answers room accepted =
+      set_on_chip config d {call = call} (record { rest = rest; answers = answers; room = room; promise = promise }) m bytes v accepted

@@ -43,7 +43,7 @@ module _ (link : Link) (reg : ℕ) (buf : List ℕ) (bus : LentBus) (answer : Re
   p = read_raw link reg buf
 
   promise : ran (gives (as_raw answer) bytes) b.tape bus.exit.now.log.now bus.exit.now.at ≡ on_tape p b
-  promise = promised p bus (gives (as_raw answer) bytes) kept
+  promise = promised p b (held bus.exit.now) (gives (as_raw answer) bytes) kept.0
 
   same_size : length bytes ≡ length buf
   same_size = ap (λ (r : Ran Read). length r.answer.bytes) promise ∙ read_size link reg buf b

@@ -27,8 +27,8 @@ pub shows : {A B : Type 0} (P : List Made → Answer B → Type 0) (f : A → An
     → Asks Short p → throughout (λ x h. AllBytes h → P h (f x)) p → Bytes bus.entry.now.tape.now
     → Shows P bus (f a)
 shows {A} P f p bus a h short holds bytes =
-    let promise = promised p bus a h in
     let b = held bus.entry.now in
+    let promise = promised p b (held bus.exit.now) a h.0 in
     record {
       seen = history p b;
       reads_back = ap (λ (r : Ran A). made_between b.tape r.bus.log b.at r.bus.at) promise ∙ shown_made p b (all_short short b);
