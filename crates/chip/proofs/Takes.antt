@@ -42,10 +42,13 @@ module _ (c : Chip) (l : List ℕ) where
     pub rest_within : answers c (write c.address l) ≡ true → (check : Bool) → c.check ≡ check → r + begun check (length bytes) ≤ 256
     rest_within h check e = rw e at (leb-true (r + begun c.check (length bytes)) 256 (answered_some ∙ h))
 
-    pub written_by : (check : Bool) → c.check ≡ check
-        → with_regs c (stores r (accepted check (write_byte c.address ∷ r ∷ []) bytes) c.regs) ≡ written c l
-    unfolding written stored_of
-    written_by check e = rw (is, e)
+    pub written_checked : c.check ≡ true → with_regs c (stores r (agreed (write_byte c.address ∷ r ∷ []) bytes) c.regs) ≡ written c l
+    unfolding written stored_of accepted
+    written_checked e = rw (is, e)
+
+    pub written_alone : c.check ≡ false → with_regs c (stores r bytes c.regs) ≡ written c l
+    unfolding written stored_of accepted
+    written_alone e = rw (is, e)
 
     acknowledged_some : (check : Bool) → c.check ≡ check
         → acknowledged c l ≡ eqb (length (accepted check (write_byte c.address ∷ r ∷ []) bytes)) (complete check (length bytes))

@@ -29,6 +29,7 @@ fn tag_of(good: bool) -> u8
 
 impl Chip {
     // Whether every check byte that came is right.
+    #[tactic(auto, using(crate::proofs::Takes::acknowledged_none, crate::proofs::Takes::acknowledged_alone, crate::proofs::Takes::acknowledged_checked))]
     fn acknowledges(&self, bytes: &[u8]) -> bool
         ensures { result ≡ acknowledged self.now bytes.now }
     {
@@ -39,6 +40,7 @@ impl Chip {
     }
 
     // Whether a write is done, and no fault.
+    #[tactic(auto, using(crate::proofs::Takes::cut_faults, crate::proofs::Takes::whole_goes))]
     fn is_done(&self, bytes: &[u8], cut: Option<usize>) -> bool
         ensures { (respond_cut (as_cut cut) self.now (write self.now.address bytes.now)).answer
             ≡ saying result [] }
@@ -77,6 +79,7 @@ impl Chip {
         Some(end + 3 + n)
     }
 
+    #[tactic(auto, using(crate::proofs::Answering::begun_none))]
     fn answer_read(
         &self,
         address: u8,
@@ -98,6 +101,7 @@ impl Chip {
         }
     }
 
+    #[tactic(auto, using(crate::proofs::Answering::begun_none))]
     fn answer_write(
         &mut self,
         address: u8,

@@ -40,6 +40,7 @@ impl Chip {
     }
 
     // A data byte of a write: status clears the bits written as 1.
+    #[tactic(auto, using(crate::proofs::Steps::arrives_status, crate::proofs::Stored::arrives_set))]
     fn arrive(&mut self, reg: u8, byte: u8)
         ensures { self.new ≡ with_regs self.old (arrives reg byte self.old.regs) }
     {
@@ -69,6 +70,7 @@ impl Chip {
     }
 
     // Without checks each byte is stored.
+    #[tactic(auto, using(crate::proofs::Steps::stores_one, crate::proofs::Steps::stores_end))]
     fn store_alone(&mut self, reg: u8, bytes: &[u8])
         requires { reg + length bytes.now ≤ 256 }
         ensures { self.new ≡ with_regs self.old (stores reg bytes.now self.old.regs) }
@@ -90,6 +92,7 @@ impl Chip {
     }
 
     // Whether n bytes from a register on pass no register FF.
+    #[tactic(auto, using(crate::proofs::Steps::within_checked, crate::proofs::Steps::within_alone))]
     fn is_within(&self, reg: u8, n: usize) -> bool
         ensures { result ≡ leb (reg + begun self.now.check n) 256 }
     {
@@ -97,6 +100,7 @@ impl Chip {
         begun <= 256 - reg as usize
     }
 
+    #[tactic(auto, using(crate::proofs::Takes::answered_none, crate::proofs::Takes::answered_some))]
     fn is_answered(&self, bytes: &[u8]) -> bool
         ensures { result ≡ answers self.now (write self.now.address bytes.now) }
     {
@@ -107,6 +111,7 @@ impl Chip {
     }
 
     // The register, and then the data.
+    #[tactic(auto, using(crate::proofs::Takes::written_none, crate::proofs::Takes::written_checked, crate::proofs::Takes::written_alone, crate::proofs::Takes::answered_some))]
     fn take_in(&mut self, bytes: &[u8])
         requires { answers self.old (write self.old.address bytes.now) ≡ true }
         ensures { self.new ≡ written self.old bytes.now }
@@ -135,6 +140,7 @@ impl Chip {
     }
 
     // Byte i of a read, however long.
+    #[tactic(auto, using(crate::proofs::Steps::shown_alone, crate::proofs::Steps::shown_data, crate::proofs::Steps::shown_first, crate::proofs::Steps::shown_later, frames::proofs::Steps::shifted_one), unfolding(crate::specs::Chip::begun))]
     fn shown(&self, reg: u8, i: usize) -> u8
         requires { reg + begun self.now.check (i + 1) ≤ 256 }
         ensures { (n : ℕ) → i < n → result ≡ get_or (shows self.now reg n) i 0 }

@@ -17,9 +17,6 @@ use Rattle.chip.proofs.Chip.answer_read.Goals.{then-address-self-via-then-addres
 abbrev after : Chip → List ℕ → ℕ → Reached Chip Outcome → List ℕ × Answered
 after chip tape end x = tells chip x tape end
 
-pub reply-requires : goal.reply-requires
-reply-requires c = begun_none c.args.self.now.check
-
 pub returns-then-address-self : goal.returns-then-address-self
 returns-then-address-self c =
     let a = c.args in

@@ -12,9 +12,6 @@ use Rattle.chip.proofs.Chip.answer_write.Goals as goal
 abbrev after : Chip → List ℕ → ℕ → Reached Chip Outcome → List ℕ × Answered
 after chip tape end x = tells chip x tape end
 
-pub reply-requires : goal.reply-requires
-reply-requires c = begun_none c.args.self.now.check
-
 pub returns-then-address-self : goal.returns-then-address-self
 returns-then-address-self c =
     let a = c.args in
@@ -23,13 +20,3 @@ returns-then-address-self c =
     ∙ c.reply.ensures chip 0 zero-le
     ∙ ap (after chip a.tape.now a.end) (write_elsewhere (as_cut a.cut) chip a.address c.if-address-self.true a.bytes.now)
 
-pub reply-requires-2 : goal.reply-requires-2
-reply-requires-2 c = begun_none c.args.self.now.check
-
-pub returns : goal.returns
-returns c =
-    let a = c.args in
-    let chip = a.self.now in
-    c.in_ok-next.ensures c.write.new.self 0 zero-le
-    ∙ ap (after chip a.tape.now a.end)
-    (write_own (as_cut a.cut) chip a.address a.bytes.now c.if-address-self.false _ c.is_done.ensures _ c.write.ensures)
