@@ -28,6 +28,7 @@ fn more(u: u32, byte: u8) -> u32
 }
 
 // The remainder of u. What stands above its low eight bits is there times x^8.
+#[tactic(auto, using(crate::proofs::Leaves::cut))]
 fn left(u: u32) -> u8
     requires { u < 2 ^ 14 }
     ensures { result ≡ divide 6 u }
@@ -47,18 +48,21 @@ pub fn check_byte(data: &[u8]) -> u8
 }
 
 // The check byte of one, two and three bytes, as the frames have them.
+#[tactic(auto, using(crate::proofs::Leaves::one))]
 pub fn check_byte1(a: u8) -> u8
     ensures { result ≡ check_byte (a ∷ []) }
 {
     left(more(0, a))
 }
 
+#[tactic(auto, using(crate::proofs::Leaves::one, crate::proofs::Leaves::two))]
 pub fn check_byte2(a: u8, b: u8) -> u8
     ensures { result ≡ check_byte (a ∷ b ∷ []) }
 {
     left(more(more(0, a), b))
 }
 
+#[tactic(auto, using(crate::proofs::Leaves::one, crate::proofs::Leaves::two, crate::proofs::Leaves::three))]
 pub fn check_byte3(a: u8, b: u8, c: u8) -> u8
     ensures { result ≡ check_byte (a ∷ b ∷ c ∷ []) }
 {

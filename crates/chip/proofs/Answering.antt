@@ -1,7 +1,7 @@
 -- What the code's answer to a log field is made of: the transfer that the field is, a field put on the tape where there is room for it, and
 -- the bytes of a read in it.
 -- Assumes nothing.
-use mathlib.Core.Path.{◌≡◌, refl, sym, ap, ap₂, ◌∙◌}
+use mathlib.Core.Path.{◌≡◌, refl, sym, ap, ◌∙◌}
 use mathlib.Core.Bool.{Bool, true, false, ◌&&◌, and-false, false≢true, and-eq-true_iff}
 use mathlib.Core.List.{List, [], ◌∷◌}
 use mathlib.Core.Option.{Option, none, some, bind}
@@ -20,7 +20,7 @@ use Rattle.laws.specs.Choice.{when◌then◌else◌}
 use Rattle.numbers.specs.Numbers.{word}
 use Rattle.bus.specs.Decoders.{unlog}
 use Rattle.fields.specs.Fields.{field, unfield}
-use Rattle.bus.specs.Transfers.{Transfer, write, read, Outcome, done, fault, tape_field}
+use Rattle.bus.specs.Transfers.{Transfer, write, read, done, fault, tape_field}
 use Rattle.fields.proofs.Fields.{field_of}
 use Rattle.chip.specs.Answering.{transfer_of, answered_with, tells, answer_on}
 use Rattle.chip.specs.Inside.{saying, told}
@@ -96,14 +96,6 @@ module _ (cut : Option ℕ) (c : Chip) (a : ℕ) (other : a ≡ c.address → �
   unfolding answers
   write_elsewhere [] = sym (unanswered cut c (write a []) (ne_eqb a c.address other))
   write_elsewhere (r ∷ bytes) = sym (unanswered cut c (write a (r ∷ bytes)) (rw (ne_eqb a c.address other)))
-
--- ---- a write to the chip's own, by its answer and the chip after it
-pub write_own : (cut : Option ℕ) (c : Chip) (a : ℕ) (bytes : List ℕ) → a ≡ c.address
-    → (o : Outcome) → (respond_cut cut c (write c.address bytes)).answer ≡ o
-    → (d : Chip) → d ≡ (respond_cut cut c (write c.address bytes)).device
-    → reached o d ≡ respond_cut cut c (write a bytes)
-write_own cut c a bytes own o said d left =
-    ap₂ (λ (x : Outcome) (y : Chip). reached x y) (sym said) left ∙ ap (λ (x : ℕ). respond_cut cut c (write x bytes)) (sym own)
 
 -- ---- a read
 module _ (c : Chip) (a r n : ℕ) where

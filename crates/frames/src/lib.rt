@@ -26,6 +26,7 @@ fn put_checked(address: u8, reg: u8, data: &[u8], out: &mut [u8])
 }
 
 // The data after the register, alone.
+#[tactic(auto, using(crate::proofs::Put::put_more, crate::proofs::Steps::next))]
 fn put_alone(data: &[u8], out: &mut [u8])
     requires { length «data».now < length out.old }
     ensures { out.new ≡ put out.old 1 «data».now }
@@ -78,6 +79,7 @@ pub fn taken(address: u8, frame: &[u8; 66], eights: usize, data: &mut [u8; 32]) 
 
 // Whether the eight pairs after the first and 8k more are each a byte and its check byte. The count is a constant and no test leaves
 // the loop, so that the compiler tests the eight at once.
+#[tactic(auto, using(crate::proofs::Eights::tested_pair, crate::proofs::Eights::tested_all))]
 fn right_eight(frame: &[u8], k: usize) -> bool
     requires { 16 * k + 18 ≤ length frame.now }
     ensures { result ≡ right [] (take 16 (drop (16 * k + 2) frame.now)) }
@@ -90,6 +92,7 @@ fn right_eight(frame: &[u8], k: usize) -> bool
 }
 
 // The data bytes of eight pairs, from the 8k-th on.
+#[tactic(auto, using(crate::proofs::Eights::carried_one, crate::proofs::Eights::carried_all))]
 fn carry_eight(frame: &[u8], k: usize, data: &mut [u8])
     requires { (16 * k + 16 ≤ length frame.now) × (8 * k + 8 ≤ length «data».old) }
     ensures { «data».new

@@ -1,6 +1,6 @@
--- Two bytes leave at most twelve bits, and they leave their check byte.
+-- Two bytes leave at most twelve bits.
 -- Assumes nothing.
-use Rattle.std.proofs.Common.{arith, rules, ◌∙◌}
+use Rattle.std.proofs.Common.{arith, rules}
 use Rattle.check_byte.proofs.Leaves.{one, two}
 use Rattle.check_byte.proofs.check_byte2.Goals as goal
 
@@ -9,6 +9,3 @@ more-requires-2 c = omega (arith, (one c.more.ensures (search rules)).small)
 
 pub left-requires : goal.left-requires
 left-requires c = omega (arith, (two c.more.ensures c.more-2.ensures (search rules) (search rules)).small)
-
-pub returns : goal.returns
-returns c = c.left.ensures ∙ (two c.more.ensures c.more-2.ensures (search rules) (search rules)).left

@@ -1,6 +1,6 @@
--- Three bytes leave at most fourteen bits, and they leave their check byte.
+-- Three bytes leave at most fourteen bits.
 -- Assumes nothing.
-use Rattle.std.proofs.Common.{arith, rules, ◌∙◌}
+use Rattle.std.proofs.Common.{arith, rules}
 use Rattle.check_byte.proofs.Leaves.{one, two, three}
 use Rattle.check_byte.proofs.check_byte3.Goals as goal
 
@@ -13,7 +13,3 @@ more-requires-3 c = omega (arith, (two c.more.ensures c.more-2.ensures (search r
 pub left-requires : goal.left-requires
 left-requires c =
     omega (arith, (three c.more.ensures c.more-2.ensures c.more-3.ensures (search rules) (search rules) (search rules)).small)
-
-pub returns : goal.returns
-returns c =
-    c.left.ensures ∙ (three c.more.ensures c.more-2.ensures c.more-3.ensures (search rules) (search rules) (search rules)).left

@@ -9,7 +9,7 @@ use Rattle.chip.specs.Answering.{Answered, as_cut, tells}
 use Rattle.chip.specs.Inside.{saying}
 use Rattle.chip.specs.declared.Chip.{Chip}
 use Rattle.chip.proofs.Steps.{begun_fewer}
-use Rattle.chip.proofs.Answering.{begun_none, unwrapped, read_away, read_past_end, read_here, read_whole, read_cut}
+use Rattle.chip.proofs.Answering.{unwrapped, read_away, read_past_end, read_here, read_whole, read_cut}
 use Rattle.chip.proofs.Chip.answer_read.Goals as goal
 use Rattle.chip.proofs.Chip.answer_read.Goals.{then-address-self-via-then-address-self, then-address-self-via-else-address-self+then-not-is_within}
 

@@ -5,7 +5,7 @@ use Rattle.bus.specs.Transfers.{Outcome}
 use Rattle.chip.specs.Devices.{Reached}
 use Rattle.chip.specs.Answering.{Answered, as_cut, tells}
 use Rattle.chip.specs.declared.Chip.{Chip}
-use Rattle.chip.proofs.Answering.{begun_none, unwrapped, write_elsewhere, write_own}
+use Rattle.chip.proofs.Answering.{unwrapped, write_elsewhere}
 use Rattle.chip.proofs.Chip.answer_write.Goals as goal
 
 -- the tape and the chip after it, by how the transfer went
@@ -19,4 +19,3 @@ returns-then-address-self c =
     ap (λ (x : Answered). (c.reply.new.tape, x)) (unwrapped chip a.end c.reply.result)
     ∙ c.reply.ensures chip 0 zero-le
     ∙ ap (after chip a.tape.now a.end) (write_elsewhere (as_cut a.cut) chip a.address c.if-address-self.true a.bytes.now)
-
