@@ -40,8 +40,7 @@ pub fn set_temperature_source(
 pub fn temperature_source(device: &BQ769x0, bus: &mut Bus) -> Result<TemperatureSource, Error>
     ensures { does (temperature_source device.now) bus (as_source result) }
 {
-    let byte = register::read_register(device, 0x04, bus)?;
-    Ok(source_in(byte))
+    Ok(source_in(register::read_register(device, 0x04, bus)?))
 }
 
 fn source_in(byte: u8) -> TemperatureSource

@@ -11,8 +11,10 @@ ghost use Rattle.commands.specs.Registers.{read_register, changing};
 
 use bq769x0::BQ769x0;
 use bus::Bus;
+use raw::short;
 use refusals::Error;
 
+#[inline(always)]
 pub(crate) fn read_register(device: &BQ769x0, reg: u8, bus: &mut Bus) -> Result<u8, Error>
     ensures { does (soundly device.now (refused nine) (read_register device.now.link reg)) bus (as_byte result) }
 {
@@ -20,11 +22,12 @@ pub(crate) fn read_register(device: &BQ769x0, reg: u8, bus: &mut Bus) -> Result<
         return Err(Error::BadDevice);
     }
     let mut data = [0u8; 1];
-    raw::short::read(device.link, reg, &mut data, bus)?;
+    short::read(device.link, reg, &mut data, bus)?;
     Ok(data[0])
 }
 
 // The bits of a mask anew, the others as they are read.
+#[inline(always)]
 pub(crate) fn change_bits(
     device: &BQ769x0,
     reg: u8,
@@ -35,5 +38,5 @@ pub(crate) fn change_bits(
     ensures { does (soundly device.now (refused nine) (changing device.now.link reg (putting mask bits))) bus (as_raw result) }
 {
     let byte = read_register(device, reg, bus)?;
-    raw::short::write(device.link, reg, &[byte & !mask | bits], bus)
+    short::write(device.link, reg, &[byte & !mask | bits], bus)
 }

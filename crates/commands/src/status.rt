@@ -9,6 +9,7 @@ ghost use Rattle.commands.specs.Commands.{sys_stat, sys_stat_reset};
 use crate::register;
 use bq769x0::BQ769x0;
 use bus::Bus;
+use raw::short;
 use refusals::Error;
 use units::flags::{Stat, SysStat};
 
@@ -29,5 +30,5 @@ pub fn sys_stat_reset(device: &BQ769x0, flags: SysStat, bus: &mut Bus) -> Result
     if flags.has_reserved() {
         return Err(Error::UnknownFlags);
     }
-    raw::short::write(device.link, 0x00, &[flags.bits], bus)
+    short::write(device.link, 0x00, &[flags.bits], bus)
 }

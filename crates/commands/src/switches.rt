@@ -13,6 +13,7 @@ ghost use Rattle.commands.specs.Commands.{discharge, charge, is_charge_enabled};
 use crate::register;
 use bq769x0::BQ769x0;
 use bus::Bus;
+use raw::short;
 use refusals::Error;
 
 pub fn discharge(device: &BQ769x0, enable: bool, bus: &mut Bus) -> Result<(), Error>
@@ -35,6 +36,7 @@ pub fn is_charge_enabled(device: &BQ769x0, bus: &mut Bus) -> Result<bool, Error>
 }
 
 // No write where the bit stands so already.
+#[inline(always)]
 fn switch_bit(device: &BQ769x0, mask: u8, enable: bool, bus: &mut Bus) -> Result<(), Error>
     ensures { does (soundly device.now (refused nine) (changing device.now.link 0x05 (switching mask enable))) bus (as_raw result) }
 {
@@ -42,6 +44,6 @@ fn switch_bit(device: &BQ769x0, mask: u8, enable: bool, bus: &mut Bus) -> Result
     if bits::stands(mask, enable, byte) {
         return Ok(());
     }
-    let changed = [bits::switched(mask, enable, byte)];
-    raw::short::write(device.link, BQ769x0::SYS_CTRL2, &changed, bus)
+    let switched = bits::switched(mask, enable, byte);
+    short::write(device.link, BQ769x0::SYS_CTRL2, &[switched], bus)
 }
