@@ -12,7 +12,7 @@ use refusals::Error;
 
 // The reading of a device that was set up with these values, which are then the answer;
 // a refusal leaves the list as it was.
-#[tactic(auto, using(bus::proofs::Programs::on_tape_bind, bus::proofs::Steps::step), unfolding(crate::specs::JobCells::read_cells, bus::specs::Programs::proceed, bus::specs::Programs::on_tape))]
+#[tactic(auto, using(bus::proofs::Steps::steps, bus::proofs::Programs::on_tape_bind), unfolding(crate::specs::JobCells::read_cells))]
 pub(crate) fn read_cells(
     values: CalculatedValues,
     device: &mut BQ769x0,

@@ -1,20 +1,19 @@
 -- The reading's millivolts are stored as a list of as many as there are cells.
 -- Assumes nothing.
 use Rattle.std.proofs.Common.{◌≡◌, ◌∙◌, length, true, arith, rules}
-use Rattle.bus.specs.Programs.{proceed, on_tape}
 use Rattle.bus.proofs.Programs.{on_tape_bind}
+use Rattle.bus.proofs.Steps.{steps}
 use Rattle.layout.specs.Cells.{has_room, stored}
 use Rattle.layout.proofs.Room.{stored_first}
 use Rattle.firmware.specs.JobWired.{read_wired}
-use Rattle.bus.proofs.Steps.{step}
 use Rattle.firmware.proofs.wired.read_wired.Goals as goal
 
 pub returns : goal.returns
-unfolding read_wired proceed on_tape
+unfolding read_wired
 returns c =
     let n = c.args.device.now.cell_count in
     let room : has_room n (length c.args.list.now) ≡ true = grind arith in
     let all : length c.wired.new.list ≡ 15 = search rules in
     let stored_is : c.put_cells.new.list ≡ stored n c.wired.new.list c.args.list.now =
     c.put_cells.ensures ∙ stored_first n c.wired.new.list c.args.list.now all room in
-    grind (arith, step, on_tape_bind, stored_is)
+    grind (arith, steps, on_tape_bind, stored_is)
