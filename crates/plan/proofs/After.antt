@@ -1,13 +1,14 @@
 -- What is left of the plan where neither 12 nor 9 applies, and the numbers that it is refused with.
 -- Assumes nothing.
 use mathlib.Core.Path.{◌≡◌, refl, ap, sym, ◌∙◌}
-use mathlib.Core.Bool.{Bool, false, true≢false, not, ◌&&◌}
+use mathlib.Core.Bool.{Bool, true, false, true≢false, not, ◌&&◌}
+use mathlib.Core.List.{[]}
 use Prim.Native.Nat.{ℕ, ◌<◌}
 use native.Mathlib.Omega.{arith}
 use lib.Dec.{eqb}
 use lib.IntN.{ℤ}
-use borrow.Author.Tests.{ne_eqb}
-use Rattle.refusals.specs.Refusal.{Answer, value, refused}
+use borrow.Author.Tests.{eq-eqb, ne_eqb}
+use Rattle.refusals.specs.Refusal.{Answer, value, refused, no}
 use Rattle.protection.specs.Ranges.{range_for, for_both}
 use Rattle.protection.specs.Steps.{scd_lower, scd_upper, ocd_lower, ocd_upper}
 use Rattle.protection.specs.declared.range.OCDSCDRange.{OCDSCDRange}
@@ -19,8 +20,8 @@ use Rattle.plan.specs.Steps.{bad_shunt}
 use Rattle.plan.specs.Trips.{trip_code_for, within_for}
 use Rattle.plan.specs.declared.Config.{Config}
 use Rattle.plan.proofs.Only.{Only, range_only, protect_only}
-use Rattle.plan.proofs.Order.{past}
-use Rattle.plan.proofs.Shunt.{good}
+use Rattle.plan.proofs.Order.{past, out}
+use Rattle.plan.proofs.Shunt.{bad, good}
 
 -- the code of an asked voltage, where the gain is not 0
 abbrev pub code_of : ℕ → ℤ → ℤ → ℕ
@@ -29,6 +30,11 @@ code_of gain offset asked = trip_code (reading_of gain offset asked)
 code_given : (gain : ℕ) (offset asked : ℤ) → 0 < gain → trip_code_for gain offset asked ≡ value (code_of gain offset asked)
 unfolding trip_code_for ◌and_then◌
 code_given gain offset asked h = simp (ne_eqb gain 0 (omega arith))
+
+-- and where it is 0
+code_none : (gain : ℕ) (offset asked : ℤ) → gain ≡ 0 → trip_code_for gain offset asked ≡ refused (no 9 [])
+unfolding trip_code_for ◌and_then◌
+code_none gain offset asked e = simp (eq-eqb gain 0 e)
 
 -- the range for two steps in mV
 abbrev pub choice : ℕ → ℕ → Answer OCDSCDRange
@@ -49,6 +55,14 @@ module _ (gain : ℕ) (offset : ℤ) (config : Config) (scd ocd : ℕ) where
 
   abbrev pub rest : OCDSCDRange → Answer Planned
   rest range = within_for gain offset ov uv and_then λ _. settled range
+
+  pub only_12 : bad_shunt config.shunt.0 ≡ true → plan_for gain offset config scd ocd ≡ refused (no 12 [])
+  unfolding plan_for
+  only_12 shunt = out _ (bad _ shunt)
+
+  pub only_9 : bad_shunt config.shunt.0 ≡ false → gain ≡ 0 → plan_for gain offset config scd ocd ≡ refused (no 9 [])
+  unfolding plan_for
+  only_9 shunt e = past _ _ (good _ shunt) ∙ out _ (code_none gain offset ov e)
 
   pub past_9 : bad_shunt config.shunt.0 ≡ false → 0 < gain → plan_for gain offset config scd ocd ≡ choice scd ocd and_then rest
   unfolding plan_for

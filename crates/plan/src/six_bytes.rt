@@ -1,12 +1,12 @@
 // What `init` writes and reports for a configuration: the middle of the crate's `init`, which makes no transfer.
 ghost use Rattle.std.specs.Prelude.{◌≡◌, ◌<◌, ◌≤◌};
-ghost use Rattle.protection.specs.Answers.{as_number};
+ghost use Rattle.adc.specs.Trips.{reading_of, trip_code};
 ghost use Rattle.protection.specs.Scd as scd;
 ghost use Rattle.protection.specs.Ocd as ocd;
 ghost use Rattle.plan.specs.Plan.{plan_for, as_plan, values_for, as_values};
 ghost use Rattle.plan.specs.Registers.{protect_of, protect_for};
 ghost use Rattle.plan.specs.Inside.{as_protect, as_within};
-ghost use Rattle.plan.specs.Trips.{trip_code_for, obtainable, within_for};
+ghost use Rattle.plan.specs.Trips.{obtainable, within_for};
 
 use crate::{CalculatedValues, Config, Plan, Steps};
 use adc::transfer::{AdcTransferFunction, Limits};
@@ -16,7 +16,7 @@ use protection::{Threshold, range};
 use refusals::Error;
 use units::{Amperes, MilliVolts};
 
-#[tactic(auto, using(crate::proofs::Order::in_turn, crate::proofs::Three::three_first), unfolding(crate::specs::Steps::shunt_for, crate::specs::Plan::plan_for, crate::specs::Plan::set_for))]
+#[tactic(auto, using(crate::proofs::Order::in_turn, crate::proofs::After::only_12, crate::proofs::After::only_9, crate::proofs::After::past_9, crate::proofs::Three::three_first), unfolding(crate::specs::Plan::set_for))]
 pub fn plan(adc: AdcTransferFunction, config: Config, steps: Steps) -> Result<Plan, Error>
     ensures { as_plan result
         ≡ plan_for adc.gain adc.offset config (scd.mv_of steps.scd) (ocd.mv_of steps.ocd) }
@@ -24,10 +24,13 @@ pub fn plan(adc: AdcTransferFunction, config: Config, steps: Steps) -> Result<Pl
     if crate::bad_shunt(config.shunt) {
         return Err(Error::BadShunt);
     }
-    let ov_bits = trip_code(adc, config.ov_threshold)?;
-    let uv_bits = trip_code(adc, config.uv_threshold)?;
+    if adc.gain == 0 {
+        return Err(Error::BadDevice);
+    }
     let range = range::range_to_use(steps.scd.range(), steps.ocd.range())?;
     within_limits(adc, config)?;
+    let ov_bits = trip_code(adc, config.ov_threshold);
+    let uv_bits = trip_code(adc, config.uv_threshold);
     let [protect1, protect2, protect3] = protect_bytes(config, steps, range)?;
     Ok(Plan {
         values: values(adc, config, steps, range, ov_bits, uv_bits),
@@ -36,11 +39,11 @@ pub fn plan(adc: AdcTransferFunction, config: Config, steps: Steps) -> Result<Pl
 }
 
 // The code of the trip register for an asked voltage.
-#[tactic(auto, using(crate::proofs::Order::in_turn), unfolding(crate::specs::Trips::trip_code_for))]
-fn trip_code(adc: AdcTransferFunction, asked: MilliVolts) -> Result<u8, Error>
-    ensures { as_number result ≡ trip_code_for adc.gain adc.offset asked.0 }
+fn trip_code(adc: AdcTransferFunction, asked: MilliVolts) -> u8
+    requires { 0 < adc.gain }
+    ensures { result ≡ trip_code (reading_of adc.gain adc.offset asked.0) }
 {
-    Ok(trips::trip_code(adc.asked_reading(asked)?))
+    trips::trip_code(adc.asked_reading(asked).unwrap())
 }
 
 // Whether both asked voltages are within what the trip registers can stand for.
