@@ -1,4 +1,5 @@
--- What the code's steps store of a reading is what the definition takes of it: the wired cells, their figures, and after the moves the crate's.
+-- What the code's steps make of a reading is what the definition takes of it: the fitted inputs' millivolts, their figures, and after the moves the
+-- crate's.
 -- Assumes nothing.
 use mathlib.Core.Path.{◌≡◌, refl, sym, ap, subst⁻¹, ◌∙◌}
 use mathlib.Core.List.{List, map}
@@ -15,90 +16,82 @@ use Rattle.wiring.proofs.Packs.{of_pack_lem}
 use Rattle.wiring.proofs.Rows.{as_many, row_within}
 use Rattle.wiring.specs.Tables.{fitted}
 use Rattle.laws.specs.Over.{◌over◌}
-use Rattle.laws.proofs.Lists.{get_d_any, map_take}
+use Rattle.laws.proofs.Lists.{get_d_any}
 use Rattle.moves.specs.Moves.{moves, in_turn}
-use Rattle.bq769x0.specs.Figures.{volts, first_cells, spread_of}
+use Rattle.bq769x0.specs.Figures.{first_cells, spread_of}
 use Rattle.bq769x0.specs.declared.Readings.{Readings}
 use Rattle.bq769x0.specs.declared.Spread.{Spread}
 use Rattle.procedure.specs.Inputs.{as_cells}
 use Rattle.procedure.specs.Taking.{of_input, voltages, taken}
-use Rattle.procedure.proofs.Fits.{stored_first}
 use Rattle.procedure.proofs.Fitted.{of_fitted}
-use Rattle.procedure.proofs.Moved.{stored}
+use Rattle.procedure.proofs.Moved as moves
 use Rattle.cells.specs.Inside.{Small}
 
 -- a pack has cells
 pub some_cells : (x n : ℕ) → T (is_count x n) → 1 ≤ n
 some_cells x n pack = leb→le 1 n (of_pack_lem (λ y m. leb 1 m) tt x n pack)
 
-module _ (x n : ℕ) (pack : T (is_count x n)) {row : List ℕ} (rows : row ≡ fitted x n) where
+module _ (x n : ℕ) (pack : T (is_count x n)) where
   most : (x ≤ 15) × (n ≤ 15)
   most = at_most_15 x n pack
 
-  pub many : length row ≡ n
-  many = ap length rows ∙ as_many x n pack
+  -- ---- the inputs that carry the cells
+  module _ {row : List ℕ} (rows : row ≡ fitted x n) where
+    pub many : length row ≡ n
+    many = ap length rows ∙ as_many x n pack
 
-  pub on_device : (k : ℕ) → k < length row → (1 ≤ get_or row k 0) × (get_or row k 0 ≤ 15)
-  on_device k h =
-      let within = row_within x n pack k (rw many at h) in
-      rw rows (within.0, omega (arith, within, most))
+    pub on_device : (k : ℕ) → k < length row → (1 ≤ get_or row k 0) × (get_or row k 0 ≤ 15)
+    on_device k h =
+        let within = row_within x n pack k (rw many at h) in
+        rw rows (within.0, omega (arith, within, most))
 
-  module _ (held : Readings) (inputs : List ℤ) (wide : length inputs ≡ 16) (few : Small x inputs) where
-    abbrev reading : List ℤ
-    reading = voltages x n (take x inputs)
-
-    -- ---- the wired cells
-    volts_are : map (of_input inputs) row ≡ reading
-    volts_are =
+    pub volts_are : (inputs : List ℤ) → map (of_input inputs) row ≡ voltages x n (take x inputs)
+    volts_are inputs =
         ap (map (of_input inputs)) rows
         ∙ of_fitted x n pack (of_input inputs) (of_input (take x inputs)) λ input low high.
         sym (get_or-take x inputs (input - 1) (pos 0) (omega arith))
 
-    as_many_volts : length reading ≡ n
-    as_many_volts = length-map (fitted x n) (of_input (take x inputs)) ∙ as_many x n pack
+  pub many_volts : (readings : List ℤ) → length (voltages x n readings) ≡ n
+  many_volts readings = length-map (fitted x n) (of_input readings) ∙ as_many x n pack
 
-    module _ (wired : List MilliVolts) (e : wired ≡ as_cells (map (of_input inputs) row) over held.wired) where
-      wired_are : wired ≡ (taken x n held (take x inputs)).wired
-      wired_are = e ∙ ap (λ (l : List ℤ). as_cells l over held.wired) volts_are
+  -- ---- what is made of their millivolts
+  module _ (held : Readings) (inputs : List ℤ) (wide : length inputs ≡ 16) (few : Small x inputs) (volts : List ℤ)
+      (by_wiring : volts ≡ voltages x n (take x inputs)) where
+    kth : (k : ℕ) → k < n → get_or volts k (pos 0) ≡ get_or inputs (get_or (fitted x n) k 0 - 1) (pos 0)
+    kth k h =
+        let readings = take x inputs in
+        let row-k = row_within x n pack k h in
+        ap (λ (l : List ℤ). get_or l k (pos 0)) by_wiring
+        ∙ get_d_any (voltages x n readings) k (pos 0) (of_input readings 0) (rw (many_volts readings) h)
+        ∙ get_or-map (of_input readings) (fitted x n) k 0
+        ∙ get_or-take x inputs (get_or (fitted x n) k 0 - 1) (pos 0) (omega (arith, row-k))
 
-      -- of which the first are the pack's
-      abbrev part : List MilliVolts
-      part = take (length row) wired
+    as_many_volts : length volts ≡ n
+    as_many_volts = ap length by_wiring ∙ many_volts (take x inputs)
 
-      part_are : map volts part ≡ reading
-      part_are =
-          map_take volts (length row) wired
-          ∙ ap (λ (k : ℕ). first_cells k wired) many
-          ∙ ap (first_cells n) wired_are
-          ∙ stored_first _ held.wired n as_many_volts
-
-      as_many_cells : length part ≡ n
-      as_many_cells = sym (length-map part volts) ∙ ap length part_are ∙ as_many_volts
-
-      kth : (k : ℕ) → k < n → get_or (map volts part) k (pos 0) ≡ get_or inputs (get_or (fitted x n) k 0 - 1) (pos 0)
-      kth k h =
-          let row-k = row_within x n pack k h in
-          ap (λ (l : List ℤ). get_or l k (pos 0)) part_are
-          ∙ get_d_any reading k (pos 0) (of_input (take x inputs) 0) (rw as_many_volts h)
-          ∙ get_or-map (of_input (take x inputs)) (fitted x n) k 0
-          ∙ get_or-take x inputs (get_or (fitted x n) k 0 - 1) (pos 0) (omega (arith, row-k))
-
-      small : Small (length part) (map volts part)
-      small k h =
-          let more = rw as_many_cells at h in
+    pub add_up : (1 ≤ length volts) × (length volts ≤ 15) × Small (length volts) volts
+    add_up = (
+      omega (arith, some_cells x n pack, as_many_volts),
+      omega (arith, as_many_volts, most),
+      λ k h.
+          let more = rw as_many_volts at h in
           let row-k = row_within x n pack k more in
-          subst⁻¹ (λ (z : ℤ). nat_abs z ≤ 27000) (kth k more) (few (get_or (fitted x n) k 0 - 1) (omega (arith, row-k)))
+          subst⁻¹ (λ (z : ℤ). nat_abs z ≤ 27000) (kth k more) (few (get_or (fitted x n) k 0 - 1) (omega (arith, row-k))),
+    )
 
-      pub add_up : (1 ≤ length part) × (length part ≤ 15) × Small (length part) (map volts part)
-      add_up = (omega (arith, some_cells x n pack, as_many_cells), omega (arith, as_many_cells, most), small)
+    -- ---- and with the inputs moved the crate's
+    module _ {moved : List ℤ} (turned : moved ≡ in_turn (pos 0) (moves x n) inputs) where
+      room : x ≤ length inputs
+      room = omega (arith, most, wide)
 
-      -- ---- and with the inputs moved the crate's
-      module _ (moved : List ℤ) (turned : moved ≡ in_turn (pos 0) (moves x n) inputs) where
-        pub all : {cells : List MilliVolts} {spread : Spread} → spread ≡ spread_of (map volts part)
-            → cells ≡ as_cells (take x moved) over held.cells
-            → record { cells = cells; wired = wired; spread = spread } ≡ taken x n held (take x inputs)
-        all figures kept =
-            let room : x ≤ length inputs = omega (arith, most, wide) in
-            let cells_are = kept ∙ stored x n pack held (take x inputs) inputs moved room refl turned in
-            let spread-is = figures ∙ ap spread_of part_are in
-            λ i. record { cells = cells_are i; wired = wired_are i; spread = spread-is i }
+      pub all : {cells wired : List MilliVolts} {spread : Spread} → cells ≡ as_cells (take x moved) over held.cells
+          → wired ≡ as_cells volts over held.wired → spread ≡ spread_of volts
+          → record { cells = cells; wired = wired; spread = spread } ≡ taken x n held (take x inputs)
+      all kept stored figures =
+          let cells_are = kept ∙ moves.stored x n pack held (take x inputs) inputs moved room refl turned in
+          let wired_are = stored ∙ ap (λ (l : List ℤ). as_cells l over held.wired) by_wiring in
+          let spread-is = figures ∙ ap spread_of by_wiring in
+          λ i. record { cells = cells_are i; wired = wired_are i; spread = spread-is i }
+
+      pub listed : take n moved ≡ first_cells n (taken x n held (take x inputs)).cells
+      listed = moves.listed_first x n pack held (take x inputs) inputs moved room refl turned

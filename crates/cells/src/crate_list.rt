@@ -1,5 +1,7 @@
 // The cells by the crate's list: read, stored in the record, and filled into the caller's list.
-ghost use Rattle.std.specs.Prelude.{◌≡◌, length};
+ghost use Rattle.std.specs.Prelude.{◌≡◌, ◌≤◌, map, length};
+ghost use Rattle.laws.specs.Over.{◌over◌};
+ghost use Rattle.bq769x0.specs.Figures.{volts};
 ghost use Rattle.bus.specs.Lent.{does};
 ghost use Rattle.bus.specs.Raw.{as_raw};
 ghost use Rattle.procedure.specs.Cells.{filled, handed_back, cell_voltages};
@@ -8,13 +10,24 @@ use crate::taking;
 use bq769x0::BQ769x0;
 use bus::Bus;
 use refusals::Error;
+use units::MilliVolts;
 
 pub fn cell_voltages(device: &mut BQ769x0, list: &mut [i32], bus: &mut Bus) -> Result<(), Error>
     ensures { does (cell_voltages device.old list.old) bus (filled (as_raw result) device.new list.new) }
 {
-    taking::test(device, list.len())?;
-    taking::read(device, bus)?;
-    taking::fill(&device.readings.cells[..device.cell_count as usize], list);
+    let mut inputs = [0; 16];
+    taking::read(device, list.len(), &mut inputs, bus)?;
+    let (x, n) = (device.link.x, device.cell_count);
+    let mut fitted = [0; 15];
+    taking::by_wiring(x, n, &inputs, &mut fitted);
+    taking::take(
+        x,
+        n,
+        &fitted[..n as usize],
+        &mut inputs,
+        &mut device.readings,
+    );
+    list[..n as usize].copy_from_slice(&inputs[..n as usize]);
     Ok(())
 }
 
@@ -27,6 +40,16 @@ pub fn cells_of<'a>(device: &BQ769x0, list: &'a mut [i32]) -> &'a mut [i32]
     if list.len() < n || 15 < n {
         return &mut list[..0];
     }
-    taking::fill(&device.readings.cells[..n], list);
+    fill(&device.readings.cells[..n], list);
     &mut list[..n]
+}
+
+// The cells, over the list's first.
+fn fill(cells: &[MilliVolts], list: &mut [i32])
+    requires { length cells.now ≤ length list.old }
+    ensures { list.new ≡ map volts cells.now over list.old }
+{
+    for (i, cell) in cells.iter().enumerate() {
+        list[i] = cell.0;
+    }
 }

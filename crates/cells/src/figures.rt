@@ -1,24 +1,24 @@
 // Sum, lowest and highest of a pack's cells.
-ghost use Rattle.std.specs.Prelude.{◌≡◌, ◌≤◌, map, length};
-ghost use Rattle.bq769x0.specs.Figures.{volts, spread_of};
+ghost use Rattle.std.specs.Prelude.{◌≡◌, ◌≤◌, length};
+ghost use Rattle.bq769x0.specs.Figures.{spread_of};
 ghost use Rattle.cells.specs.Inside.{Small};
 
 use bq769x0::Spread;
 use units::MilliVolts;
 
 // Of at least one cell, each small.
-pub(crate) fn spread_of(cells: &[MilliVolts]) -> Spread
-    requires { (1 ≤ length cells.now) × (length cells.now ≤ 15) × Small (length cells.now) (map volts cells.now) }
-    ensures { result ≡ spread_of (map volts cells.now) }
+pub(crate) fn spread_of(millivolts: &[i32]) -> Spread
+    requires { (1 ≤ length millivolts.now) × (length millivolts.now ≤ 15) × Small (length millivolts.now) millivolts.now }
+    ensures { result ≡ spread_of millivolts.now }
 {
-    let first = cells[0].0;
+    let first = millivolts[0];
     let mut sum = first;
     let mut lowest = first;
     let mut highest = first;
-    for cell in &cells[1..] {
-        sum += cell.0;
-        lowest = lowest.min(cell.0);
-        highest = highest.max(cell.0);
+    for &mv in &millivolts[1..] {
+        sum += mv;
+        lowest = lowest.min(mv);
+        highest = highest.max(mv);
     }
     Spread {
         sum: MilliVolts(sum),

@@ -1,14 +1,14 @@
 // A reading of all inputs, over the cells that the record holds.
-ghost use Rattle.std.specs.Prelude.{◌≡◌, map, ℕ, ◌≤◌, ◌<◌, true, length, get_or, take};
+ghost use Rattle.std.specs.Prelude.{◌≡◌, ◌≤◌, true, length, take, IfOk};
 ghost use Rattle.sizes.specs.Sizes.{is_count};
 ghost use Rattle.laws.specs.Over.{◌over◌};
+ghost use Rattle.refusals.specs.Refusal.{answering};
 ghost use Rattle.bus.specs.Lent.{does};
 ghost use Rattle.bus.specs.Raw.{as_raw};
-ghost use Rattle.bq769x0.specs.Record.{leaves, is_sound};
-ghost use Rattle.bq769x0.specs.Figures.{volts};
+ghost use Rattle.bq769x0.specs.Figures.{first_cells};
 ghost use Rattle.procedure.specs.Inputs.{as_cells};
-ghost use Rattle.procedure.specs.Taking.{of_input, taken};
-ghost use Rattle.cells.specs.Inside.{Small, tests, reads};
+ghost use Rattle.procedure.specs.Taking.{voltages, taken};
+ghost use Rattle.cells.specs.Inside.{Small, Ready, reads};
 
 use crate::{figures, inputs};
 use bq769x0::{BQ769x0, Readings};
@@ -17,9 +17,16 @@ use refusals::Error;
 use units::MilliVolts;
 use wiring::tables;
 
-// 9, 4, and 19 where there is room for fewer cells than the pack has.
-pub(crate) fn test(device: &BQ769x0, room: usize) -> Result<(), Error>
-    ensures { as_raw result ≡ tests device.now room }
+// All inputs, for a caller with room for so many cells: 9, 4, 19, then as they are read.
+#[tactic(auto, using(crate::proofs::Told::stepped), unfolding(bus::specs::Programs::proceed, bus::specs::Programs::on_tape))]
+pub(crate) fn read(
+    device: &BQ769x0,
+    room: usize,
+    inputs: &mut [i32; 16],
+    bus: &mut Bus,
+) -> Result<(), Error>
+    ensures read { does (reads device.now room) bus (answering (as_raw result) (take device.now.link.x inputs.new)) }
+    ensures ready { IfOk result (λ _. Ready device.now room inputs.new) }
 {
     if !device.is_sound() {
         return Err(Error::BadDevice);
@@ -30,62 +37,47 @@ pub(crate) fn test(device: &BQ769x0, room: usize) -> Result<(), Error>
     if room < device.cell_count as usize {
         return Err(Error::NoRoom);
     }
-    Ok(())
+    inputs::read_inputs(device.link, device.adc, inputs, bus)
 }
 
-// Where the read is refused nothing of the record is touched.
-pub(crate) fn read(device: &mut BQ769x0, bus: &mut Bus) -> Result<(), Error>
-    requires { is_sound device.old ≡ true }
-    ensures read { does (reads device.old) bus (leaves (as_raw result) device.new) }
-    ensures pack { (device.new.link ≡ device.old.link) × (device.new.cell_count ≡ device.old.cell_count) }
-{
-    let link = device.link;
-    let mut inputs = [0; 16];
-    inputs::read_inputs(link, device.adc, &mut inputs, bus)?;
-    take(link.x, device.cell_count, &mut inputs, &mut device.readings);
-    Ok(())
-}
-
-// What a reading of all inputs leaves of the readings held; the inputs are moved on the way.
-fn take(x: u8, cell_count: u8, inputs: &mut [i32; 16], readings: &mut Readings)
+// The fitted inputs' millivolts, over the first of the list.
+pub(crate) fn by_wiring(x: u8, cell_count: u8, inputs: &[i32; 16], list: &mut [i32])
     requires pack { is_count x cell_count ≡ true }
-    requires small { Small x inputs.old }
-    ensures { readings.new ≡ taken x cell_count readings.old (take x inputs.old) }
+    requires room { cell_count ≤ length list.old }
+    ensures { list.new ≡ voltages x cell_count (take x inputs.now) over list.old }
 {
     let fitted = tables::fitted(x, cell_count);
-    by_wiring(fitted, inputs, &mut readings.wired);
-    readings.spread = figures::spread_of(&readings.wired[..fitted.len()]);
+    for (i, &input) in fitted.iter().enumerate() {
+        list[i] = inputs[input as usize - 1];
+    }
+}
+
+// What a reading of all inputs leaves of the readings held, with the fitted ones' millivolts at hand; the inputs are moved on the way.
+pub(crate) fn take(
+    x: u8,
+    cell_count: u8,
+    fitted: &[i32],
+    inputs: &mut [i32; 16],
+    readings: &mut Readings,
+)
+    requires pack { is_count x cell_count ≡ true }
+    requires small { Small x inputs.old }
+    requires volts { fitted.now ≡ voltages x cell_count (take x inputs.old) }
+    ensures stored { readings.new ≡ taken x cell_count readings.old (take x inputs.old) }
+    ensures moved { take cell_count inputs.new ≡ first_cells cell_count readings.new.cells }
+{
+    store(fitted, &mut readings.wired);
+    readings.spread = figures::spread_of(fitted);
     moves::in_turn(x, cell_count, inputs);
     store(&inputs[..x as usize], &mut readings.cells);
 }
 
-// The fitted inputs' millivolts, over the cells held.
-fn by_wiring(fitted: &[u8], inputs: &[i32; 16], cells: &mut [MilliVolts; 15])
-    requires n_bound { length fitted.now ≤ 15 }
-    requires by_index { (k : ℕ) → k < length fitted.now → (1 ≤ get_or fitted.now k 0) × (get_or fitted.now k 0 ≤ 15) }
-    ensures { cells.new ≡ as_cells (map (of_input inputs.now) fitted.now) over cells.old }
+// The numbers, over the cells held.
+fn store(millivolts: &[i32], cells: &mut [MilliVolts; 15])
+    requires { length millivolts.now ≤ 15 }
+    ensures { cells.new ≡ as_cells millivolts.now over cells.old }
 {
-    for (i, &input) in fitted.iter().enumerate() {
-        cells[i] = MilliVolts(inputs[input as usize - 1]);
-    }
-}
-
-// The inputs, over the cells held.
-fn store(inputs: &[i32], cells: &mut [MilliVolts; 15])
-    requires { length inputs.now ≤ 15 }
-    ensures { cells.new ≡ as_cells inputs.now over cells.old }
-{
-    for (i, &input) in inputs.iter().enumerate() {
-        cells[i] = MilliVolts(input);
-    }
-}
-
-// The cells, over the list's first.
-pub(crate) fn fill(cells: &[MilliVolts], list: &mut [i32])
-    requires { length cells.now ≤ length list.old }
-    ensures { list.new ≡ map volts cells.now over list.old }
-{
-    for (i, cell) in cells.iter().enumerate() {
-        list[i] = cell.0;
+    for (i, &mv) in millivolts.iter().enumerate() {
+        cells[i] = MilliVolts(mv);
     }
 }

@@ -18,10 +18,17 @@ pub fn wired(
     ensures { does (wired device.old inputs.old list.old) bus
         (shown (as_raw result) device.new inputs.new list.new) }
 {
-    taking::test(device, inputs.len().min(list.len()))?;
-    taking::read(device, bus)?;
-    let fitted = tables::fitted(device.link.x, device.cell_count);
-    inputs[..fitted.len()].copy_from_slice(fitted);
-    taking::fill(&device.readings.wired[..fitted.len()], list);
+    let mut millivolts = [0; 16];
+    taking::read(device, inputs.len().min(list.len()), &mut millivolts, bus)?;
+    let (x, n) = (device.link.x, device.cell_count);
+    inputs[..n as usize].copy_from_slice(tables::fitted(x, n));
+    taking::by_wiring(x, n, &millivolts, list);
+    taking::take(
+        x,
+        n,
+        &list[..n as usize],
+        &mut millivolts,
+        &mut device.readings,
+    );
     Ok(())
 }

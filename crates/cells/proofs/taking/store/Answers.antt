@@ -10,6 +10,6 @@ pub loop-i-preserved : goal.loop-i-preserved
 loop-i-preserved c =
     let l = c.loop-i in
     let a = c.args in (
-      map_next as_cell a.inputs.now a.cells.now l.i (pos 0) l.invariant.0 (ap as_cell (read_back w32 _ (omega arith))) (omega arith) (omega arith),
+      map_next as_cell a.millivolts.now a.cells.now l.i (pos 0) l.invariant.0 (ap as_cell (read_back w32 _ (omega arith))) (omega arith) (omega arith),
       l.invariant.1,
     )

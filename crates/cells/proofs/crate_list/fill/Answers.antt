@@ -1,10 +1,10 @@
--- `cells::taking::fill` meets its contract: a turn goes on from i numbers to i + 1.
+-- `cells::crate_list::fill` meets its contract: a turn goes on from i numbers to i + 1.
 -- Assumes nothing.
 use Rattle.std.proofs.Common.{pos, arith, length-set, w32}
 use Rattle.laws.proofs.Over.{map_next}
 use Rattle.numbers.proofs.Signed.{read_back}
 use Rattle.bq769x0.specs.Figures.{volts}
-use Rattle.cells.proofs.taking.fill.Goals as goal
+use Rattle.cells.proofs.crate_list.fill.Goals as goal
 
 pub loop-i-preserved : goal.loop-i-preserved
 loop-i-preserved c =
