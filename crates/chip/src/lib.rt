@@ -11,7 +11,7 @@ ghost use Rattle.chip.specs.Answering.{as_cut};
 
 use check_byte::{check_byte1, check_byte2, check_byte3};
 
-pub mod answer;
+mod answer;
 
 #[derive(Clone, Copy)]
 pub struct Chip {
