@@ -1,5 +1,5 @@
 // SYS_STAT (00): `Stat` is what was read of it, `SysStat` a set of its flags.
-ghost use Rattle.std.specs.Prelude.{◌≡◌};
+ghost use Rattle.std.specs.Prelude.{◌≡◌, ◌/◌, ◌%◌, ◌<◌, eqb};
 ghost use Rattle.std.specs.Int.Bits.{bit_or};
 ghost use Rattle.units.specs.Flags.{bit, is_ok, all_flags};
 
@@ -60,46 +60,53 @@ impl SysStat {
 
 // A flag of `Stat` is tested by the constant of `SysStat`, so that the promise holds the constant too.
 impl Stat {
+    fn has(self, flag: SysStat) -> bool
+        requires { 0 < flag.bits }
+        ensures { result ≡ eqb (self.bits / flag.bits % 2) 1 }
+    {
+        self.bits / flag.bits % 2 == 1
+    }
+
     pub fn cc_ready_is_set(self) -> bool
         ensures { result ≡ bit 7 self.bits }
     {
-        self.bits / SysStat::CC_READY.bits % 2 == 1
+        self.has(SysStat::CC_READY)
     }
 
     pub fn device_xready_is_set(self) -> bool
         ensures { result ≡ bit 5 self.bits }
     {
-        self.bits / SysStat::DEVICE_XREADY.bits % 2 == 1
+        self.has(SysStat::DEVICE_XREADY)
     }
 
     pub fn ovrd_alert_is_set(self) -> bool
         ensures { result ≡ bit 4 self.bits }
     {
-        self.bits / SysStat::OVRD_ALERT.bits % 2 == 1
+        self.has(SysStat::OVRD_ALERT)
     }
 
     pub fn undervoltage_is_set(self) -> bool
         ensures { result ≡ bit 3 self.bits }
     {
-        self.bits / SysStat::UNDERVOLTAGE.bits % 2 == 1
+        self.has(SysStat::UNDERVOLTAGE)
     }
 
     pub fn overvoltage_is_set(self) -> bool
         ensures { result ≡ bit 2 self.bits }
     {
-        self.bits / SysStat::OVERVOLTAGE.bits % 2 == 1
+        self.has(SysStat::OVERVOLTAGE)
     }
 
     pub fn scd_is_set(self) -> bool
         ensures { result ≡ bit 1 self.bits }
     {
-        self.bits / SysStat::SHORTCIRCUIT.bits % 2 == 1
+        self.has(SysStat::SHORTCIRCUIT)
     }
 
     pub fn ocd_is_set(self) -> bool
         ensures { result ≡ bit 0 self.bits }
     {
-        self.bits / SysStat::OVERCURRENT.bits % 2 == 1
+        self.has(SysStat::OVERCURRENT)
     }
 
     pub fn is_ok(self) -> bool
