@@ -2,7 +2,7 @@
 -- Assumes nothing.
 use mathlib.Core.Path.{◌≡◌, refl, sym}
 use mathlib.Core.Bool.{Bool, true, false, not}
-use Rattle.refusals.specs.Refusal.{Refusal, Answer, value, refused}
+use Rattle.refusals.specs.Refusal.{Refusal, Answer, refused}
 use Rattle.bus.specs.Transfers.{Bus}
 use Rattle.bus.specs.Programs.{Prog, ret, on_tape, ◌or_leave◌, ◌>>=◌}
 use Rattle.bus.proofs.Programs.{pure_off}
