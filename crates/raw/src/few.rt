@@ -73,5 +73,5 @@ pub fn write_few(link: Link, reg: u8, data: &[u8], bus: &mut Bus) -> Result<(), 
             }
         }
     }
-    crate::write_raw(link, reg, data, bus)
+    long::write_long(link, reg, data, bus)
 }

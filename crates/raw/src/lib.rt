@@ -4,7 +4,7 @@
 ghost use Rattle.std.specs.Prelude.{◌≡◌, ◌+◌, ◌*◌, ◌≤◌, length, replicate, take};
 ghost use Rattle.frames.specs.Put.{put};
 ghost use Rattle.bus.specs.Lent.{does};
-ghost use Rattle.bus.specs.Raw.{as_raw, gives, read_raw, ask_write, send, compared, ask_back, write_raw};
+ghost use Rattle.bus.specs.Raw.{as_raw, gives, read_raw, ask_write, send, compared, write_raw};
 ghost use Rattle.raw.specs.Inside.{taken};
 
 use bus::Bus;
@@ -103,21 +103,5 @@ fn send_frame(link: Link, reg: u8, data: &[u8], bus: &mut Bus) -> Result<(), Err
 pub fn write_raw(link: Link, reg_address: u8, data: &[u8], bus: &mut Bus) -> Result<(), Error>
     ensures { does (write_raw link reg_address «data».now) bus (as_raw result) }
 {
-    send(link, reg_address, data, bus)?;
-    if link.check | (data.len() == 0) {
-        return Ok(());
-    }
-    verify(link.address, reg_address, data, bus)
-}
-
-// A read of what was written, and the comparison.
-fn verify(address: u8, reg: u8, data: &[u8], bus: &mut Bus) -> Result<(), Error>
-    requires data_len_bound { length «data».now ≤ 8 }
-    requires data_bound { reg + length «data».now ≤ 256 }
-    ensures { does (ask_back address reg «data».now) bus (as_raw result) }
-{
-    let mut held = [0u8; 8];
-    let back = &mut held[..data.len()];
-    transfer::transfer_read(address, reg, back, bus)?.done()?;
-    compare(reg, data, back)
+    few::write_few(link, reg_address, data, bus)
 }

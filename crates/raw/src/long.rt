@@ -1,7 +1,7 @@
-// A read by the long way, whatever tape and log say to it.
-ghost use Rattle.std.specs.Prelude.{◌≤◌, length};
+// A read and a write by the long way, whatever tape and log say to them.
+ghost use Rattle.std.specs.Prelude.{◌+◌, ◌≤◌, length};
 ghost use Rattle.bus.specs.Lent.{does};
-ghost use Rattle.bus.specs.Raw.{as_raw, gives, plain_read, ask_frame, checked_read, read_raw};
+ghost use Rattle.bus.specs.Raw.{as_raw, gives, plain_read, ask_frame, checked_read, read_raw, ask_back, write_raw};
 
 use crate::transfer;
 use bus::Bus;
@@ -58,4 +58,26 @@ pub(crate) fn read_long(link: Link, reg: u8, data: &mut [u8], bus: &mut Bus) -> 
     } else {
         plain_read(link, reg, data, bus)
     }
+}
+
+pub(crate) fn write_long(link: Link, reg: u8, data: &[u8], bus: &mut Bus) -> Result<(), Error>
+    ensures { does (write_raw link reg «data».now) bus (as_raw result) }
+{
+    crate::send(link, reg, data, bus)?;
+    if link.check | (data.len() == 0) {
+        return Ok(());
+    }
+    verify(link.address, reg, data, bus)
+}
+
+// A read of what was written, and the comparison.
+fn verify(address: u8, reg: u8, data: &[u8], bus: &mut Bus) -> Result<(), Error>
+    requires data_len_bound { length «data».now ≤ 8 }
+    requires data_bound { reg + length «data».now ≤ 256 }
+    ensures { does (ask_back address reg «data».now) bus (as_raw result) }
+{
+    let mut held = [0u8; 8];
+    let back = &mut held[..data.len()];
+    transfer::transfer_read(address, reg, back, bus)?.done()?;
+    crate::compare(reg, data, back)
 }

@@ -99,6 +99,7 @@ pub(crate) fn log_read(log: &mut [u8], at: usize, address: u8, reg: u8, count: u
 }
 
 // i2c.write_read(address, &[reg], buf)
+#[inline(always)]
 pub(crate) fn transfer_read(
     address: u8,
     reg: u8,
@@ -121,6 +122,7 @@ pub(crate) fn transfer_read(
 }
 
 // i2c.write(address, bytes)
+#[inline(always)]
 pub(crate) fn transfer_write(address: u8, bytes: &[u8], bus: &mut Bus) -> Result<Made, Error>
     ensures { leaves bus (WrittenBy (write address bytes.now) result) }
 {

@@ -4,7 +4,7 @@ use Rattle.std.proofs.Common.{length, replicate, Ok, Err, refl, sym}
 use Rattle.std.proofs.lemmas.Result.{err_from_is_err_and}
 use lib.Seq.{length-take-le}
 use Rattle.raw.proofs.Asked.{back_off, back_on}
-use Rattle.raw.proofs.verify.Goals as goal
+use Rattle.raw.proofs.long.verify.Goals as goal
 
 pub returns-in_err-transfer_read : goal.returns-in_err-transfer_read
 returns-in_err-transfer_read c =

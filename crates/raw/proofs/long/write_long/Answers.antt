@@ -3,7 +3,7 @@
 use Rattle.std.proofs.Common.{refl, ◌∙◌}
 use Rattle.std.proofs.lemmas.Result.{err_from_is_err_and}
 use Rattle.bus.proofs.Raws.{write_off, write_done, write_back, back_within}
-use Rattle.raw.proofs.write_raw.Goals as goal
+use Rattle.raw.proofs.long.write_long.Goals as goal
 
 pub returns-in_err-send : goal.returns-in_err-send
 returns-in_err-send c =
