@@ -9,7 +9,8 @@ ghost use Rattle.commands.specs.Commands.{enable_balancing, balancing_state, sys
 ghost use Rattle.commands.specs.Commands.{discharge, charge, is_charge_enabled, ship_enter};
 ghost use Rattle.commands.specs.Commands.{enable_adc, set_temperature_source, temperature_source, coulomb_counter_mode};
 ghost use Rattle.bench.specs.Calls.{record_by, nothing, itself, bits_of, bit_of, code_of, given, as_told};
-ghost use Rattle.bench_commands.specs.Codes.{flags_by, source_by, mode_by};
+ghost use Rattle.commands.specs.Codes.{source_by, mode_by};
+ghost use Rattle.bench_commands.specs.Codes.{flags_by};
 
 use bench::told;
 use bus::Bus;
@@ -17,26 +18,6 @@ use commands::control::TemperatureSource;
 use commands::counter::CoulombCounterMode;
 use commands::{balancing, control, counter, ship, status, switches};
 use units::flags::SysStat;
-
-fn source_by(thermistor: bool) -> TemperatureSource
-    ensures { result ≡ source_by thermistor }
-{
-    if thermistor {
-        TemperatureSource::ExternalThermistor
-    } else {
-        TemperatureSource::InternalDie
-    }
-}
-
-fn mode_by(code: u8) -> CoulombCounterMode
-    ensures { result ≡ mode_by code }
-{
-    match code {
-        0 => CoulombCounterMode::Disabled,
-        1 => CoulombCounterMode::OneShot,
-        _ => CoulombCounterMode::Continuous,
-    }
-}
 
 #[unsafe(no_mangle)]
 pub extern "C" fn bench_enable_balancing(
@@ -271,7 +252,11 @@ pub extern "C" fn bench_set_temperature_source(
 {
     let device = bench::record_by(x, cell_count, address, check, gain, b51, shunt);
     let mut bus = Bus::new(tape, log);
-    let answer = control::set_temperature_source(&device, source_by(thermistor), &mut bus);
+    let answer = control::set_temperature_source(
+        &device,
+        TemperatureSource::from(thermistor),
+        &mut bus,
+    );
     told::tell(answer, bus.at, out)
 }
 
@@ -318,6 +303,6 @@ pub extern "C" fn bench_coulomb_counter_mode(
 {
     let device = bench::record_by(x, cell_count, address, check, gain, b51, shunt);
     let mut bus = Bus::new(tape, log);
-    let answer = counter::coulomb_counter_mode(&device, mode_by(code), &mut bus);
+    let answer = counter::coulomb_counter_mode(&device, CoulombCounterMode::from(code), &mut bus);
     told::tell(answer, bus.at, out)
 }

@@ -39,8 +39,16 @@ fn set(call: Call, device: &BQ769x0, bus: &mut Bus) -> Option<Result<(), Error>>
         (0x2A, &[on]) => switches::discharge(device, on == 1, bus),
         (0x2B, &[on]) => switches::charge(device, on == 1, bus),
         (0x2E, &[on]) => control::enable_adc(device, on == 1, bus),
-        (0x2F, &[code]) => control::set_temperature_source(device, source(code), bus),
-        (0x31, &[code]) => counter::coulomb_counter_mode(device, mode(code), bus),
+        (0x2F, &[code]) => control::set_temperature_source(
+            device,
+            TemperatureSource::from(code != 0),
+            bus,
+        ),
+        (0x31, &[code]) => counter::coulomb_counter_mode(
+            device,
+            CoulombCounterMode::from(code),
+            bus,
+        ),
         (0x33, [register, data @ ..]) => by_record::write_raw(device, *register, data, bus),
         // A set of two bytes, and the limit.
         (0x36, &[high, low, limit]) => {
@@ -48,19 +56,4 @@ fn set(call: Call, device: &BQ769x0, bus: &mut Bus) -> Option<Result<(), Error>>
         }
         _ => return None,
     })
-}
-
-fn source(code: u8) -> TemperatureSource {
-    match code {
-        0 => TemperatureSource::InternalDie,
-        _ => TemperatureSource::ExternalThermistor,
-    }
-}
-
-fn mode(code: u8) -> CoulombCounterMode {
-    match code {
-        0 => CoulombCounterMode::Disabled,
-        1 => CoulombCounterMode::OneShot,
-        _ => CoulombCounterMode::Continuous,
-    }
 }

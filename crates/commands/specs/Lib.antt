@@ -1,3 +1,4 @@
 pub mod Registers
 pub mod Answers
+pub mod Codes
 pub mod Commands

@@ -1,12 +1,11 @@
 // The converter and the source of the temperature, bits 4 and 3 of register 04.
 #![tactic(auto, using(crate::proofs::Steps::steps), unfolding(crate::specs::Registers::read_as))]
 
-ghost use Rattle.std.specs.Prelude.{◌≡◌};
 ghost use Rattle.bus.specs.Lent.{does};
 ghost use Rattle.bus.specs.Raw.{as_raw};
 ghost use Rattle.commands.specs.Answers.{as_source};
 ghost use Rattle.commands.specs.Commands.{enable_adc, set_temperature_source};
-ghost use Rattle.commands.specs.Commands.{source_in, temperature_source};
+ghost use Rattle.commands.specs.Commands.{temperature_source};
 
 use crate::register;
 use bq769x0::BQ769x0;
@@ -18,6 +17,22 @@ use refusals::Error;
 pub enum TemperatureSource {
     InternalDie = 0,
     ExternalThermistor = 0b0000_1000,
+}
+
+// Whether it is a thermistor.
+impl From<bool> for TemperatureSource {
+    ghost use Rattle.std.specs.Prelude.{◌≡◌};
+    ghost use Rattle.commands.specs.Codes.{source_by};
+
+    ghost from_gives = { λ thermistor source. source ≡ source_by thermistor };
+
+    fn from(thermistor: bool) -> Self {
+        if thermistor {
+            TemperatureSource::ExternalThermistor
+        } else {
+            TemperatureSource::InternalDie
+        }
+    }
 }
 
 pub fn enable_adc(device: &BQ769x0, enable: bool, bus: &mut Bus) -> Result<(), Error>
@@ -40,15 +55,6 @@ pub fn set_temperature_source(
 pub fn temperature_source(device: &BQ769x0, bus: &mut Bus) -> Result<TemperatureSource, Error>
     ensures { does (temperature_source device.now) bus (as_source result) }
 {
-    Ok(source_in(register::read_register(device, 0x04, bus)?))
-}
-
-fn source_in(byte: u8) -> TemperatureSource
-    ensures { result ≡ source_in byte }
-{
-    if bits::thermistor(byte) {
-        TemperatureSource::ExternalThermistor
-    } else {
-        TemperatureSource::InternalDie
-    }
+    let byte = register::read_register(device, 0x04, bus)?;
+    Ok(TemperatureSource::from(bits::thermistor(byte)))
 }

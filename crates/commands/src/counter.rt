@@ -16,6 +16,22 @@ pub enum CoulombCounterMode {
     Continuous = 0b0100_0000,
 }
 
+// By its number: 0 off, 1 once, any other always.
+impl From<u8> for CoulombCounterMode {
+    ghost use Rattle.std.specs.Prelude.{◌≡◌};
+    ghost use Rattle.commands.specs.Codes.{mode_by};
+
+    ghost from_gives = { λ code mode. mode ≡ mode_by code };
+
+    fn from(code: u8) -> Self {
+        match code {
+            0 => CoulombCounterMode::Disabled,
+            1 => CoulombCounterMode::OneShot,
+            _ => CoulombCounterMode::Continuous,
+        }
+    }
+}
+
 pub fn coulomb_counter_mode(
     device: &BQ769x0,
     mode: CoulombCounterMode,
