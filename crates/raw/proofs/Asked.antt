@@ -25,7 +25,7 @@ use Rattle.bus.specs.declared.link.Link.{Link}
 use Rattle.raw.specs.Inside.{Reply, made, whole, outcome_of, ending, answer_to, taken, buffer_after, WentBy, ReadBy, WrittenBy}
 
 -- one transfer, and an answer by its outcome
-pub asked_by : {A : Type 0} (t : Transfer) {b b' : Bus} (f : Outcome → A) {o : Outcome} → WentBy t o b b'
+asked_by : {A : Type 0} (t : Transfer) {b b' : Bus} (f : Outcome → A) {o : Outcome} → WentBy t o b b'
     → ends (f o) b' ≡ on_tape (ask t (λ p. ret (f p))) b
 unfolding on_tape
 asked_by t f w = λ i. record { answer = f (w.went i); bus = w.next i }

@@ -40,7 +40,7 @@ module _ (want tag high low : ℕ) (bytes : List ℕ) where
   abbrev len : ℕ
   len = word high low
 
-  pub says_cut : length bytes < len → says want (tag ∷ high ∷ low ∷ bytes) ≡ stopped (no 15 [])
+  says_cut : length bytes < len → says want (tag ∷ high ∷ low ∷ bytes) ≡ stopped (no 15 [])
   unfolding says unfield untape
   says_cut h = rw (lt-leb _ _ h)
 
@@ -68,7 +68,7 @@ module _ (want tag high low : ℕ) (bytes : List ℕ) where
       (leb→le len want (both_right (eqb tag 0x02) (leb len want) (f tt)), omega arith)
   within h false false d f = tt
 
-  pub says_whole : len ≤ length bytes
+  says_whole : len ≤ length bytes
       → Heard want (tag ∷ high ∷ low ∷ bytes) (says want (tag ∷ high ∷ low ∷ bytes)) (judged want tag len)
   unfolding says unfield untape is_done is_fault
   says_whole h =

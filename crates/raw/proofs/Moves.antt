@@ -102,7 +102,7 @@ module _ (t : Transfer) (b : Bus) where
     three : from + suc (suc (suc n)) ≡ from + 3 + n
     three = omega arith
 
-    pub outcome_is : outcome t b ≡ ended_as f bytes
+    outcome_is : outcome t b ≡ ended_as f bytes
     outcome_is = sym h.said ∙ ap (ended_as f) is_bytes
 
     -- tape and log after it
@@ -120,7 +120,7 @@ module _ (t : Transfer) (b : Bus) where
       abbrev next : Bus
       next = bus_of b.tape log (record { tape = from + 3 + n; log = end })
 
-      pub went_made : (held : List ℕ) → take n held ≡ bytes → WentBy t (outcome_of (made f n) held) b next
+      went_made : (held : List ℕ) → take n held ≡ bytes → WentBy t (outcome_of (made f n) held) b next
       went_made held e = record {
         went = ap (ended_as f) e ∙ sym outcome_is;
         next = rw (logged, far, is) (bus_after f ∙ ap (λ (o : Outcome). after t o b) (sym outcome_is));

@@ -1,7 +1,7 @@
 -- From a transfer that was done by the short way: what the raw calls' programs that ask for it do.
 -- Assumes nothing.
 use mathlib.Core.Path.{◌≡◌, refl, sym, ap, subst, ◌∙◌}
-use mathlib.Core.Bool.{Bool, true, false, ◌&&◌, ◌||◌}
+use mathlib.Core.Bool.{Bool, true, false, ◌||◌}
 use mathlib.Core.Logic.{◌⊎◌, inl, inr, ⊎_elim}
 use Prim.Native.Nat.{ℕ, ◌+◌, ◌*◌, ◌≤◌}
 use mathlib.Core.List.{List, ◌++◌}
@@ -37,11 +37,6 @@ five s e =
         (λ (u : T (eqb s.x 5)). omega (arith, eqb→eq s.x 5 u))
         (λ (u : T (eqb s.x 10)). omega (arith, eqb→eq s.x 10 u))
         (or_yes (eqb s.x 5) (eqb s.x 10) t)
-
--- a sound link that does not go with check bytes goes without
-pub reads_plain : (sound check : Bool) → sound && check ≡ false → sound ≡ true → check ≡ false
-reads_plain true check e s = e
-reads_plain false check e s = absurd (subst T (sym s) tt)
 
 -- ---- a frame in the first of an array's zeros
 module _ (zeros frame : List ℕ) (k : ℕ) (size : length frame ≡ k) where
