@@ -71,15 +71,15 @@ pub(crate) fn make(
     Some(match (call.tag, call.value) {
         (0x21, value) => {
             let config = job::parse_config(value).ok()?;
-            setup::init(device, config, bus).map(|values| Told::Init(values))
+            setup::init(device, config, bus).map(Told::Init)
         }
         (0x22, &[n]) => {
             let list = &mut lent.list[..n as usize];
             crate_list::cell_voltages(device, list, bus).map(|_| Told::Cells)
         }
-        (0x23, _) => pack::current(device, bus).map(|current| Told::Current(current)),
-        (0x24, _) => pack::voltage(device, bus).map(|voltage| Told::Voltage(voltage)),
-        (0x25, _) => temperature::temperature(device, bus).map(|read| Told::Temperature(read)),
+        (0x23, _) => pack::current(device, bus).map(Told::Current),
+        (0x24, _) => pack::voltage(device, bus).map(Told::Voltage),
+        (0x25, _) => temperature::temperature(device, bus).map(Told::Temperature),
         (0x34, &[m, n]) => {
             let mut inputs = lent.inputs;
             let list = &mut lent.list[..n as usize];
@@ -87,9 +87,7 @@ pub(crate) fn make(
             lent.inputs = inputs;
             answer.map(|_| Told::Wired)
         }
-        (0x35, &[x, cells, input]) => {
-            questions::cell_on(x, cells, input).map(|cell| Told::CellOn(cell))
-        }
+        (0x35, &[x, cells, input]) => questions::cell_on(x, cells, input).map(Told::CellOn),
         (0x38, _) => Ok(Told::Spread(device.spread())),
         _ => return registers::make(call, device, lent, bus),
     })

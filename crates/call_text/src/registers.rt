@@ -16,11 +16,11 @@ pub(crate) fn make(
     bus: &mut Bus,
 ) -> Option<Result<Told, Error>> {
     Some(match (call.tag, call.value) {
-        (0x27, _) => balancing::balancing_state(device, bus).map(|cells| Told::Balancing(cells)),
-        (0x28, _) => status::sys_stat(device, bus).map(|stat| Told::Status(stat)),
-        (0x2C, _) => switches::is_charge_enabled(device, bus).map(|on| Told::Charging(on)),
-        (0x30, _) => control::temperature_source(device, bus).map(|source| Told::Source(source)),
-        (0x37, _) => balancing::balance_get(device, bus).map(|set| Told::BalanceGet(set)),
+        (0x27, _) => balancing::balancing_state(device, bus).map(Told::Balancing),
+        (0x28, _) => status::sys_stat(device, bus).map(Told::Status),
+        (0x2C, _) => switches::is_charge_enabled(device, bus).map(Told::Charging),
+        (0x30, _) => control::temperature_source(device, bus).map(Told::Source),
+        (0x37, _) => balancing::balance_get(device, bus).map(Told::BalanceGet),
         // The buffer is as long as the value says.
         (0x32, &[register, high, low]) => {
             let data = lent.data.get_mut(..numbers::be_u16(high, low) as usize)?;
