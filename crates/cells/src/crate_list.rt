@@ -15,9 +15,9 @@ use units::MilliVolts;
 pub fn cell_voltages(device: &mut BQ769x0, list: &mut [i32], bus: &mut Bus) -> Result<(), Error>
     ensures { does (cell_voltages device.old list.old) bus (filled (as_raw result) device.new list.new) }
 {
+    let (x, n) = (device.link.x, device.cell_count);
     let mut inputs = [0; 16];
     taking::read(device, list.len(), &mut inputs, bus)?;
-    let (x, n) = (device.link.x, device.cell_count);
     let mut fitted = [0; 15];
     taking::by_wiring(x, n, &inputs, &mut fitted);
     taking::take(

@@ -18,9 +18,9 @@ pub fn wired(
     ensures { does (wired device.old inputs.old list.old) bus
         (shown (as_raw result) device.new inputs.new list.new) }
 {
+    let (x, n) = (device.link.x, device.cell_count);
     let mut millivolts = [0; 16];
     taking::read(device, inputs.len().min(list.len()), &mut millivolts, bus)?;
-    let (x, n) = (device.link.x, device.cell_count);
     inputs[..n as usize].copy_from_slice(tables::fitted(x, n));
     taking::by_wiring(x, n, &millivolts, list);
     taking::take(
