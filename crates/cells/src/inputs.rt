@@ -31,14 +31,15 @@ pub(crate) fn read_inputs(
     Ok(())
 }
 
-// The first n inputs of the bytes, eight at a time.
+// The first n inputs of the bytes: eight of them, or sixteen.
 fn convert(adc: AdcTransferFunction, n: usize, buf: &[u8; 32], inputs: &mut [i32; 16])
     requires n_bound { (n ≤ 15) × (adc.gain ≤ 396) }
     requires held { Held adc buf.now 0 inputs.old }
     ensures { Held adc buf.now n inputs.new }
 {
-    for k in (0..n).step_by(8) {
-        convert_eight(adc, buf, k, inputs);
+    convert_eight(adc, buf, 0, inputs);
+    if 8 < n {
+        convert_eight(adc, buf, 8, inputs);
     }
 }
 

@@ -1,4 +1,4 @@
--- `cells::inputs::convert` meets its contract: k is 0 or 8 where a turn begins, and the turns end at 8 or 16.
+-- `cells::inputs::convert` meets its contract: eight are enough, or sixteen.
 -- Assumes nothing.
 use Rattle.std.proofs.Common.{ℕ, ◌≤◌, List, take, ℤ, sym, ap, ◌∙◌, arith}
 use lib.Seq.{take-take}
@@ -19,8 +19,8 @@ fewer {adc} {bytes} {k} {cells} n few held = record {
   small = λ j h. held.small j (omega arith);
 }
 
-pub returns : goal.returns
-returns c = fewer _ (omega arith) c.loop-k.invariant.2
+pub returns-then-n-gt8 : goal.returns-then-n-gt8
+returns-then-n-gt8 c = fewer _ (omega arith) c.convert_eight-then-n-gt8.ensures
 
-pub returns-2 : goal.returns-2
-returns-2 c = fewer _ (omega arith) c.convert_eight.ensures
+pub returns-else-n-gt8 : goal.returns-else-n-gt8
+returns-else-n-gt8 c = fewer _ (omega arith) c.convert_eight.ensures
