@@ -8,7 +8,7 @@ ghost use Rattle.adc.specs.Trips.{ov_trip, uv_trip, limits, asked_reading, as_as
 use refusals::Error;
 use units::MilliVolts;
 
-#[derive(Clone, Copy)]
+#[derive(Clone, Copy, PartialEq, Eq)]
 pub struct AdcTransferFunction {
     pub gain: u16,
     pub offset: i8,

@@ -7,7 +7,7 @@ use units::{MicroOhms, MilliVolts};
 
 pub mod record;
 
-#[derive(Clone, Copy)]
+#[derive(Clone, Copy, PartialEq, Eq)]
 pub struct BQ769x0 {
     pub link: Link,
     pub cell_count: u8,
@@ -28,14 +28,14 @@ pub struct Head {
 }
 
 // What the last accepted reading gave: the cells by the crate's list and by the wiring, and the figures of the wired ones.
-#[derive(Clone, Copy)]
+#[derive(Clone, Copy, PartialEq, Eq)]
 pub struct Readings {
     pub cells: [MilliVolts; 15],
     pub wired: [MilliVolts; 15],
     pub spread: Spread,
 }
 
-#[derive(Clone, Copy)]
+#[derive(Clone, Copy, PartialEq, Eq)]
 pub struct Spread {
     pub sum: MilliVolts,
     pub lowest: MilliVolts,

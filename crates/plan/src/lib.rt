@@ -27,7 +27,7 @@ pub struct Config {
     pub ov_threshold: MilliVolts,
 }
 
-#[derive(Clone, Copy)]
+#[derive(Clone, Copy, PartialEq, Eq)]
 pub struct CalculatedValues {
     pub ocdscd_range_used: OCDSCDRange,
     pub scd_threshold: Amperes,
