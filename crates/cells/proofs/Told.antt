@@ -9,7 +9,8 @@ use Rattle.refusals.specs.Refusal.{Refusal, Answer, value, refused, refused_if, 
 use Rattle.bus.specs.Transfers.{Bus}
 use Rattle.bus.specs.Programs.{Prog, ret, Ran, ends, on_tape, proceed, ◌or_leave◌, ◌>>=◌}
 use Rattle.bus.specs.Raw.{Done}
-use Rattle.bus.proofs.Programs.{on_tape_bind, pure_on, pure_off}
+use Rattle.bus.proofs.Programs.{pure_on, pure_off}
+use Rattle.bus.proofs.Steps.{step}
 use Rattle.bq769x0.specs.Record.{is_sound}
 use Rattle.bq769x0.specs.declared.BQ769x0.{BQ769x0}
 use Rattle.bq769x0.proofs.Soundly.{sound_on, sound_off}
@@ -17,11 +18,6 @@ use Rattle.procedure.specs.Inputs.{read_inputs}
 use Rattle.procedure.specs.Cells.{ready}
 use Rattle.procedure.proofs.Reading.{reading, call}
 use Rattle.cells.specs.Inside.{reads}
-
-pub stepped : {A B : Type 0} (p : Prog (Answer A)) (leave : Refusal → B) (f : A → Prog B) (b : Bus)
-    → on_tape ((p or_leave leave) >>= f) b ≡ on_tape (proceed leave f (on_tape p b).answer) (on_tape p b).bus
-unfolding ◌>>=◌
-stepped p leave f b = on_tape_bind p (proceed leave f) b
 
 module _ {A : Type 0} (d : BQ769x0) (room : ℕ) (leave : Refusal → A) (give : List ℤ → A) (b : Bus) where
   abbrev tell : Answer (List ℤ) → A
@@ -39,7 +35,7 @@ module _ {A : Type 0} (d : BQ769x0) (room : ℕ) (leave : Refusal → A) (give :
   by_reading : on_tape (reading d room leave give b) b ≡ told (on_tape (read_inputs d.link d.adc) b)
   by_reading =
       let read = on_tape (read_inputs d.link d.adc) b in
-      stepped (read_inputs d.link d.adc) leave _ b ∙ by_answer read.answer read.bus
+      step (read_inputs d.link d.adc) leave _ b ∙ by_answer read.answer read.bus
 
   abbrev tested : Answer Done → Prog (Answer (List ℤ))
   tested y = (ret y or_leave refused) >>= λ _. read_inputs d.link d.adc

@@ -18,7 +18,7 @@ use units::MilliVolts;
 use wiring::tables;
 
 // All inputs, for a caller with room for so many cells: 9, 4, 19, then as they are read.
-#[tactic(auto, using(crate::proofs::Told::stepped), unfolding(bus::specs::Programs::proceed, bus::specs::Programs::on_tape))]
+#[tactic(auto, using(bus::proofs::Steps::step), unfolding(bus::specs::Programs::proceed, bus::specs::Programs::on_tape))]
 pub(crate) fn read(
     device: &BQ769x0,
     room: usize,

@@ -2,12 +2,11 @@
 use bq769x0::BQ769x0;
 use bus::Bus;
 use commands::balancing;
-use plan::Config;
-use plan::answer::in_numbers;
+use plan::{CalculatedValues, Config};
 use refusals::Error;
 
-// What either answers: of an init the five numbers, of a set zeros.
-pub(crate) type Answer = Result<[u32; 5], Error>;
+// What either answers: an init the values too.
+pub(crate) type Answer = Result<Option<CalculatedValues>, Error>;
 
 #[derive(Clone, Copy)]
 pub(crate) enum Call {
@@ -19,13 +18,9 @@ pub(crate) enum Call {
 impl Call {
     pub(crate) fn make(self, device: &mut BQ769x0, bus: &mut Bus) -> Answer {
         match self {
-            Call::Init(config) => {
-                let answer = setup::init(device, config, bus);
-                let n = in_numbers(&answer);
-                answer.map(|_| [n.0, n.1, n.2, n.3, n.4])
-            }
+            Call::Init(config) => setup::init(device, config, bus).map(Some),
             Call::Set(inputs, limit) => {
-                balancing::balance_set(device, inputs, limit, bus).map(|_| [0; 5])
+                balancing::balance_set(device, inputs, limit, bus).map(|_| None)
             }
         }
     }

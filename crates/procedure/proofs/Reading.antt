@@ -1,18 +1,17 @@
 -- What both calls for the cells have in common: the tests ahead of the read, then the one read of all inputs, whatever
 -- is given of it.
 -- Assumes nothing.
-use mathlib.Core.Path.{◌≡◌, refl, sym, ap, subst⁻¹, ◌∙◌}
+use mathlib.Core.Path.{◌≡◌, refl, subst⁻¹}
 use mathlib.Core.Bool.{Bool, true, false}
-use mathlib.Core.List.{List, []}
-use Prim.Native.Nat.{ℕ, ◌*◌, ◌≤◌, ◌<◌}
+use mathlib.Core.List.{List}
+use Prim.Native.Nat.{ℕ, ◌*◌}
 use native.Mathlib.Omega.{arith}
 use lib.IntN.{ℤ}
-use borrow.Author.Tests.{lt-ltb, le-ltb}
-use Rattle.refusals.specs.Refusal.{Refusal, no, Answer, value, refused, answering, nine}
+use Rattle.refusals.specs.Refusal.{Refusal, Answer, value, refused, nine}
 use Rattle.bus.specs.Transfers.{Bus}
 use Rattle.bus.specs.Programs.{Prog, ret, Ran, on_tape, ◌or_leave◌, ◌>>=◌}
-use Rattle.bus.specs.Raw.{Done, read_bytes}
-use Rattle.bus.proofs.Programs.{went_on, went_off, pure_on, pure_off}
+use Rattle.bus.specs.Raw.{read_bytes}
+use Rattle.bus.proofs.Programs.{went_on, went_off}
 use Rattle.bq769x0.specs.Record.{is_sound}
 use Rattle.bq769x0.specs.Registers.{soundly}
 use Rattle.bq769x0.specs.declared.BQ769x0.{BQ769x0}
@@ -49,15 +48,6 @@ module _ (d : BQ769x0) (b : Bus) where
       (λ r b' inputs e. absurd (let z : ◌≡◌ {A = ℕ} 0 1 = cc in omega arith))
       (λ bytes read inputs e. (bytes, read, cc))
 
--- what comes of a call, by the tests ahead of its read: 9, 4, 19, and then the rest
-pub record Tested {A : Type 0} (d : BQ769x0) (room : ℕ) (leave : Refusal → A) (b : Bus)
-    (whole rest : Ran A) : Type 0 where
-  pub unsound : is_sound d ≡ false → whole ≡ record { answer = leave nine; bus = b }
-  pub unmarked : is_sound d ≡ true → d.init_complete ≡ false → whole ≡ record { answer = leave (no 4 []); bus = b }
-  pub cramped : is_sound d ≡ true → d.init_complete ≡ true → room < d.cell_count
-      → whole ≡ record { answer = leave (no 19 []); bus = b }
-  pub roomy : is_sound d ≡ true → d.init_complete ≡ true → d.cell_count ≤ room → whole ≡ rest
-
 module _ {A : Type 0} (d : BQ769x0) (room : ℕ) (leave : Refusal → A) (give : List ℤ → A) (b : Bus) where
   -- the read, and what is given of it
   abbrev pub reading : Prog A
@@ -66,31 +56,6 @@ module _ {A : Type 0} (d : BQ769x0) (room : ℕ) (leave : Refusal → A) (give :
   -- 9, 4, 19 ahead of it
   abbrev pub call : Prog A
   call = soundly d (leave nine) ((ret (ready d room) or_leave leave) >>= λ _. reading)
-
-  pub tested : Tested d room leave b (on_tape call b) (on_tape reading b)
-  tested = record {
-    unsound = λ e. sound_off d (leave nine) _ b e;
-    unmarked = λ sound e. sound_on d (leave nine) _ b sound ∙ pure_off leave _ b (ready d room) (no 4 []) (rw e);
-    cramped = λ sound e h.
-        sound_on d (leave nine) _ b sound
-        ∙ pure_off leave _ b (ready d room) (no 19 []) (rw (e, lt-ltb room d.cell_count h));
-    roomy = λ sound e h.
-        sound_on d (leave nine) _ b sound
-        ∙ pure_on leave _ b (ready d room) tt (rw (e, le-ltb room d.cell_count h));
-  }
-
-  -- the read's answer, with the inputs that it gives
-  module _ (a : Answer Done) (inputs : List ℤ) (b' : Bus)
-      (read : record { answer = answering a inputs; bus = b' } ≡ on_tape (read_inputs d.link d.adc) b) where
-    answers : {z : Answer Done} → a ≡ z → answering a inputs ≡ answering z inputs
-    answers e = ap (λ (y : Answer Done). answering y inputs) e
-
-    pub unread : (r : Refusal) → a ≡ refused r → on_tape reading b ≡ record { answer = leave r; bus = b' }
-    unread r e = went_off (read_inputs d.link d.adc) leave _ b b' (answering a inputs) (sym read) r (answers e)
-
-    pub given : a ≡ value tt → on_tape reading b ≡ record { answer = give inputs; bus = b' }
-    unfolding on_tape
-    given e = went_on (read_inputs d.link d.adc) leave _ b b' (answering a inputs) (sym read) inputs (answers e)
 
   -- what holds of every refusal, and of what is given of the bytes that a sound record's read gives, holds of the call
   module _ (P : Ran A → Type 0) (off : (r : Refusal) (b' : Bus) → P (record { answer = leave r; bus = b' }))

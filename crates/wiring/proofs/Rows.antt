@@ -7,7 +7,7 @@ use Prim.Native.Nat.{ℕ, ◌+◌, ◌-◌, ◌≤◌, ◌<◌}
 use native.Mathlib.Omega.{arith}
 use lib.Dec.{T, eqb, leb, eqb→eq, leb→le}
 use lib.ListN.{length, take, drop, get_or, replicate, get_or-append}
-use lib.Seq.{take-take, take_at, get_or-take, take-append-add}
+use lib.Seq.{get_or-take, take-append-add}
 use Rattle.std.proofs.lemmas.List.{take-replicate, drop-replicate}
 use Rattle.sizes.specs.Sizes.{is_count}
 use Rattle.wiring.specs.Tables.{Row, connections, row_of, fitted}
@@ -61,9 +61,6 @@ module _ (x n : ℕ) (pack : T (is_count x n)) where
   row_order j k before h = rising_order 0 x (fitted x n) row_rises j k before (rw as_many h)
 
   -- as the code lists them, with zeros behind
-  pub row_first : take n (fifteen (fitted x n)) ≡ fitted x n
-  row_first = take-take n 15 (fitted x n ++ replicate 15 0) (at_most_15 x n pack).1 ∙ take_at (fitted x n) (replicate 15 0) n as_many
-
   pub row_at : (k : ℕ) → k < n → get_or (fifteen (fitted x n)) k 0 ≡ get_or (fitted x n) k 0
   row_at k h =
       let most = at_most_15 x n pack in
