@@ -1,16 +1,10 @@
--- What private contracts cite: a step's codes, and a line of the code's ladder of steps. Nobody has to believe it.
+-- What private contracts cite: a line of the code's ladder of steps. Nobody has to believe it.
 -- Assumes nothing.
 use Rattle.std.specs.Prelude.{ℕ, suc, ◌≤◌, cond, List, [], ◌∷◌, map, eqb}
-use Rattle.protection.specs.Ranges.{code_in}
 use Rattle.protection.specs.Scd as scd
 use Rattle.protection.specs.Ocd as ocd
-use Rattle.protection.specs.declared.range.Codes.{Codes}
 use Rattle.protection.specs.declared.scd.SCDThreshold.{SCDThreshold}
 use Rattle.protection.specs.declared.ocd.OCDThreshold.{OCDThreshold}
-
--- a step's codes in the lower range and in the upper one
-abbrev pub codes_for : List ℕ → List ℕ → ℕ → Codes
-codes_for lower upper n = record { 0 = code_in lower n; 1 = code_in upper n }
 
 -- a line of the ladder: the numbers that have one step
 pub record Line : Type 0 where

@@ -2,6 +2,7 @@
 -- Assumes nothing.
 use Rattle.std.specs.Prelude.{ℕ, suc, ◌*◌, Bool, true, false, cond, ◌&&◌, List, [], ◌∷◌, eqb}
 use Rattle.refusals.specs.Refusal.{Answer, value, refused, no}
+use Rattle.protection.specs.declared.range.Codes.{Codes}
 use Rattle.protection.specs.declared.range.OCDSCDRange.{OCDSCDRange}
 use Rattle.protection.specs.declared.range.OCDSCDRange.TheVariants as R
 
@@ -33,6 +34,10 @@ place_from at (x ∷ xs) n = cond (eqb x n) at (place_from (suc at) xs n)
 -- n's code in a range: its place in the range's list, counted from 0, or 0 where the list has no n
 abbrev pub code_in : List ℕ → ℕ → ℕ
 code_in = place_from 0
+
+-- a step's codes in the lower range and in the upper one
+abbrev pub codes_for : List ℕ → List ℕ → ℕ → Codes
+codes_for lower upper n = record { 0 = code_in lower n; 1 = code_in upper n }
 
 -- the code for a range, of a step's two
 abbrev pub in_range : OCDSCDRange → ℕ → ℕ → Answer ℕ

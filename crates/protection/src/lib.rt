@@ -3,8 +3,7 @@
 
 ghost use Rattle.std.specs.Prelude.{◌≡◌, ℕ, List, ◌++◌};
 ghost use Rattle.protection.specs.Answers.{as_number, as_step};
-ghost use Rattle.protection.specs.Inside.{codes_for};
-ghost use Rattle.protection.specs.Ranges.{code_for, range_for};
+ghost use Rattle.protection.specs.Ranges.{code_for, codes_for, range_for};
 ghost use Rattle.protection.specs.Steps.{mv_across, step, step_for};
 
 use range::{Codes, OCDSCDRange};
