@@ -8,7 +8,7 @@ use native.Mathlib.Omega.{arith}
 use lib.Dec.{T, eqb, leb, eqb→eq, leb→le}
 use lib.ListN.{length, take, drop, get_or, replicate, get_or-append}
 use lib.Seq.{get_or-take, take-append-add}
-use Rattle.std.proofs.lemmas.List.{take-replicate, drop-replicate}
+use Rattle.std.proofs.lemmas.List.{take-replicate, drop-replicate, length-take-le}
 use Rattle.sizes.specs.Sizes.{is_count}
 use Rattle.wiring.specs.Tables.{Row, connections, row_of, fitted}
 use Rattle.wiring.specs.Questions.{fifteen}
@@ -44,6 +44,10 @@ zeros_behind l h =
     ap (λ (rest : List ℕ). l ++ rest) behind
     ∙ sym (take-append-add l (replicate 15 0) (15 - length l))
     ∙ ap (λ (k : ℕ). take k (l ++ replicate 15 0)) all
+
+-- and fifteen places have room for it
+pub places : (l : List ℕ) → length l ≤ 15 → length (take {A = ℕ} (length l) (replicate 15 0)) ≡ length l
+places l h = length-take-le (length l) (replicate 15 0) h
 
 module _ (x n : ℕ) (pack : T (is_count x n)) where
   pub as_many : length (fitted x n) ≡ n

@@ -8,7 +8,7 @@ use crate::tables;
 use refusals::Error;
 
 // As many inputs as the pack has cells, and 0 behind them.
-#[tactic(auto, using(crate::proofs::Packs::asked, crate::proofs::Rows::few, crate::proofs::Rows::zeros_behind), unfolding(crate::specs::Questions::inputs_for))]
+#[tactic(auto, using(crate::proofs::Packs::asked, crate::proofs::Rows::few, crate::proofs::Rows::zeros_behind, crate::proofs::Rows::places), unfolding(crate::specs::Questions::inputs_for))]
 pub fn inputs(x: u8, cells: u8) -> Result<[u8; 15], Error>
     ensures { as_inputs result ≡ listed (inputs_for x cells) }
 {
