@@ -47,16 +47,6 @@ module _ (r n : ℕ) (reg : r < 256) where
   unfolding begun
   within_alone = leb_same n (256 - r) (r + n) 256 _ _ refl refl (λ h. omega arith) (λ h. omega arith)
 
--- the register that byte i of a read shows
-module _ (c : Chip) (r i : ℕ) (h : r + begun c.check (i + 1) ≤ 256) where
-  pub place_alone : c.check ≡ false → r + i < 256
-  unfolding begun
-  place_alone e = omega (arith, rw e at h)
-
-  pub place_checked : c.check ≡ true → r + i / 2 < 256
-  unfolding begun
-  place_checked e = omega (arith, rw e at h)
-
 -- of n bytes that begin no register past FF, the first ones do not either
 pub begun_fewer : (check : Bool) (r k n : ℕ) → k ≤ n → r + begun check n ≤ 256 → r + begun check k ≤ 256
 unfolding begun

@@ -22,6 +22,7 @@ pub struct Chip {
 
 impl Chip {
     // All registers are zero.
+    #[tactic(auto, unfolding(crate::specs::Chip::zeros))]
     pub fn make(address: u8, check: bool) -> Chip
         ensures { result ≡ fresh address check }
     {

@@ -7,14 +7,14 @@ use Prim.Native.Nat.{ℕ, zero, suc, ◌+◌, ◌-◌, ◌*◌, ◌/◌, ◌%◌
 use native.Mathlib.Omega.{arith}
 use lib.Dec.{eqb}
 use lib.ListN.{length, take, drop, replicate, length-append, length-replicate, replicate-append-replicate}
-use lib.Seq.{take_at, take_all, drop_at}
+use lib.Seq.{take_all, drop_at}
 use borrow.Author.Tests.{eq-eqb}
 use Rattle.check_byte.specs.CheckByte.{check_byte}
 use Rattle.check_byte.proofs.Zeros.{zero_alone}
 use Rattle.frames.specs.Frames.{read_byte, right, data_of}
 use Rattle.frames.specs.Put.{put}
 use Rattle.frames.proofs.Checked.{length_data}
-use Rattle.frames.proofs.Parts.{right_append, data_append, take_data}
+use Rattle.frames.proofs.Parts.{right_append, data_append}
 use Rattle.frames.proofs.Put.{take_front}
 
 abbrev zeros : ℕ → List ℕ
@@ -72,20 +72,6 @@ right_then before (x ∷ []) n some even = absurd (omega arith)
 right_then before (x ∷ c ∷ rest) n some even =
     ap (λ (t : Bool). eqb c (check_byte (before ++ x ∷ [])) && t)
     (right_append rest (zeros (2 * n)) (omega arith) ∙ rw (right_zeros n) (and-true (right [] rest)))
-
--- ---- a frame of n pairs in the first places of k pairs of zero
-module _ (f p : List ℕ) (k n : ℕ) (is : p ≡ put (replicate (2 * k) 0) 0 f) (size : length f ≡ 2 * n) (few : n ≤ k) where
-  with_zeros : p ≡ f ++ zeros (2 * (k - n))
-  with_zeros = is ∙ after f (2 * k) (2 * (k - n)) (omega arith)
-
-  pub right_among : (before : List ℕ) → 1 ≤ n → right before p ≡ right before f
-  right_among before some = ap (right before) with_zeros ∙ right_then before f (k - n) (omega arith) (omega arith)
-
-  pub data_among : take n (data_of p) ≡ data_of f
-  data_among =
-      take_data n p
-      ∙ ap (λ (l : List ℕ). data_of (take (2 * n) l)) with_zeros
-      ∙ ap data_of (take_at f (zeros (2 * (k - n))) (2 * n) size)
 
 -- ---- a frame of n pairs in the first places of 66 zeros, and the eights that it reaches into
 module _ (f p : List ℕ) (n : ℕ) (is : p ≡ put (replicate 66 0) 0 f) (size : length f ≡ 2 * n) (some : 1 ≤ n) (few : n ≤ 30) where

@@ -9,7 +9,7 @@ use lib.Dec.{eqb}
 use lib.ListN.{length, take}
 use lib.Seq.{take-nil}
 use Rattle.check_byte.specs.CheckByte.{check_byte}
-use Rattle.frames.specs.Frames.{checked, right, data_of}
+use Rattle.frames.specs.Frames.{right, data_of}
 
 pub right_append : (l m : List ℕ) → length l % 2 ≡ 0 → right [] (l ++ m) ≡ (right [] l && right [] m)
 unfolding right
@@ -36,12 +36,3 @@ take_data (suc n) (x ∷ []) =
 take_data (suc n) (x ∷ c ∷ rest) =
     let two : 2 * suc n ≡ suc (suc (2 * n)) = omega arith in
     rw two (ap (◌∷◌ x) (take_data n rest))
-
--- and the pairs of the first n bytes are the first n pairs
-pub take_checked : (n : ℕ) (before bytes : List ℕ) → take (2 * n) (checked before bytes) ≡ checked before (take n bytes)
-unfolding checked
-take_checked zero before bytes = refl
-take_checked (suc n) before [] = take-nil (2 * suc n)
-take_checked (suc n) before (x ∷ bytes) =
-    let two : 2 * suc n ≡ suc (suc (2 * n)) = omega arith in
-    rw two (ap (λ (l : List ℕ). x ∷ check_byte (before ++ x ∷ []) ∷ l) (take_checked n [] bytes))
