@@ -38,6 +38,13 @@ impl Outcome {
         self.answer.err().map_or(0, |e| e.number())
     }
 
+    // Whether both answered the same and left the same record and the same registers.
+    pub(crate) fn is_as(&self, other: &Outcome) -> bool {
+        self.answer == other.answer
+            && self.device == other.device
+            && self.chip.regs == other.chip.regs
+    }
+
     // A call on what this one left.
     pub(crate) fn left(&self, call: Call) -> Start {
         Start {
@@ -92,7 +99,7 @@ impl Start {
             if let Some(fault) = tape.get_mut(filled.tape) {
                 *fault = 0x02;
             }
-            let to = self.on_tape(&tape, &mut log).2;
+            let to = self.logged(&tape, &mut log);
             // The field that was added to the log, if one was.
             let field = log.get(filled.log..to).unwrap_or(&[]);
             if field.is_empty() {
@@ -106,7 +113,8 @@ impl Start {
                 log: to,
             };
         }
-        let (device, answer, _) = self.on_tape(&tape, &mut log);
+        let mut device = self.device;
+        let answer = self.call.make(&mut device, &mut Bus::new(&tape, &mut log));
         Outcome {
             chip,
             device,
@@ -115,11 +123,11 @@ impl Start {
         }
     }
 
-    // The call on a tape: the record it leaves, its answer, and how far the log is used.
-    fn on_tape(self, tape: &[u8], log: &mut [u8]) -> (BQ769x0, Answer, usize) {
+    // How far the log is used by the call on a tape.
+    fn logged(self, tape: &[u8], log: &mut [u8]) -> usize {
         let mut device = self.device;
         let mut bus = Bus::new(tape, log);
-        let answer = self.call.make(&mut device, &mut bus);
-        (device, answer, bus.at.log)
+        self.call.make(&mut device, &mut bus).ok();
+        bus.at.log
     }
 }

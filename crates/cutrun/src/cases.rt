@@ -99,29 +99,16 @@ pub(crate) fn again(check: bool) -> Start {
     set_up(check, upper())
 }
 
-// No range has both steps: by 6, after both reads of the calibration.
-pub(crate) fn no_range(check: bool) -> Start {
-    set_up(check, with(1000, 22, 100, 2800, 4200))
-}
-
-// By 7, after both reads.
-pub(crate) fn undervoltage(check: bool) -> Start {
-    set_up(check, with(1000, 50, 20, 1000, 4200))
-}
-
-// By 8, after both reads.
-pub(crate) fn overvoltage(check: bool) -> Start {
-    set_up(check, with(1000, 50, 20, 2800, 4483))
-}
-
-// By 12, with no transfer.
-pub(crate) fn no_shunt(check: bool) -> Start {
-    set_up(check, with(0, 50, 20, 2800, 4200))
-}
-
-// By 13, with no transfer.
-pub(crate) fn overcurrent(check: bool) -> Start {
-    set_up(check, with(1000, 1000, 20, 2800, 4200))
+// In turn by 6 (no range has both steps), 7 and 8 after both reads of the calibration, and by 12 and 13 with no transfer.
+pub(crate) fn refused_inits(check: bool) -> [Start; 5] {
+    [
+        with(1000, 22, 100, 2800, 4200),
+        with(1000, 50, 20, 1000, 4200),
+        with(1000, 50, 20, 2800, 4483),
+        with(0, 50, 20, 2800, 4200),
+        with(1000, 1000, 20, 2800, 4200),
+    ]
+    .map(|config| set_up(check, config))
 }
 
 // ---- sets of inputs, on a chip that was set up, and has other inputs on and in 01 to 03 bits that are no input's
@@ -153,17 +140,14 @@ pub(crate) fn second() -> Call {
     Call::Set(0b00010, 1)
 }
 
-// By 22, 23 and 24, with no transfer.
-pub(crate) fn not_on_device(check: bool) -> Start {
-    with_others_on(BQ769x0::BQ76930, check, Call::Set(0b1_00000_00000, 9))
-}
-
-pub(crate) fn neighbours(check: bool) -> Start {
-    with_others_on(BQ769x0::BQ76930, check, Call::Set(0b11000, 9))
-}
-
-pub(crate) fn too_many(check: bool) -> Start {
-    with_others_on(BQ769x0::BQ76930, check, Call::Set(0b00001_00001, 1))
+// In turn by 22, 23 and 24, with no transfer.
+pub(crate) fn refused_sets(check: bool) -> [Start; 3] {
+    [
+        Call::Set(0b1_00000_00000, 9),
+        Call::Set(0b11000, 9),
+        Call::Set(0b00001_00001, 1),
+    ]
+    .map(|call| with_others_on(BQ769x0::BQ76930, check, call))
 }
 
 // Input 6 is on, and input 1 is to be instead, with a limit of 1.

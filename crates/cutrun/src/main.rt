@@ -11,7 +11,6 @@ use std::io;
 mod bench;
 mod call;
 mod cases;
-mod compare;
 mod report;
 mod tally;
 mod twice;
@@ -27,13 +26,7 @@ fn accepted(rt: &impl Print, check: bool) -> io::Result<()> {
 }
 
 fn refused(rt: &impl Print, check: bool) -> io::Result<()> {
-    for start in [
-        cases::no_range(check),
-        cases::undervoltage(check),
-        cases::overvoltage(check),
-        cases::no_shunt(check),
-        cases::overcurrent(check),
-    ] {
+    for start in cases::refused_inits(check) {
         case("BQ76940 refused", start).all(rt, cases::as_upper())?;
     }
     Ok(())
@@ -63,11 +56,7 @@ fn sets(rt: &impl Print, check: bool) -> io::Result<()> {
         set.all(rt, second)?;
         twice::all(rt, set)?;
     }
-    for start in [
-        cases::not_on_device(check),
-        cases::neighbours(check),
-        cases::too_many(check),
-    ] {
+    for start in cases::refused_sets(check) {
         case("a set refused", start).all(rt, second)?;
     }
     case("input 1 for 6", cases::six_then_one(check)).shown(rt)

@@ -2,8 +2,8 @@
 // ended as if nothing had been cut before it. A cut after which one did not has a line of its own.
 use crate::bench::{Outcome, Place, Start};
 use crate::call::Call;
+use crate::cases;
 use crate::tally::Tally;
-use crate::{cases, compare};
 use chip::Chip;
 use std::{fmt, io};
 
@@ -102,7 +102,7 @@ impl Case {
         place: Place,
     ) -> io::Result<bool> {
         let then = after.on(self.start.run(Some(place)).left(self.start.call));
-        if compare::same(&then, whole) {
+        if then.is_as(whole) {
             return Ok(true);
         }
         print!(rt; "{} DIFFERS after ", after.what)?;

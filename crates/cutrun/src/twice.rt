@@ -1,6 +1,5 @@
 // Two cuts in a row, at each pair of places, and whether the call after them ends as if nothing had been cut before it.
 use crate::bench::{Outcome, Place, Start};
-use crate::compare;
 use crate::report::Case;
 use crate::tally::Tally;
 use std::io;
@@ -14,7 +13,7 @@ fn is_same(
     whole: &Outcome,
 ) -> io::Result<bool> {
     let again = start.run(Some(second)).left(start.call).run(None);
-    let same = compare::same(&again, whole);
+    let same = again.is_as(whole);
     if !same {
         println!(rt; "cut twice{first}{second}: DIFFERS")?;
     }
