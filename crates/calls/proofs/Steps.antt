@@ -134,10 +134,10 @@ module _ (input : List ℕ) (at : ℕ) (f : Field) (given : field_at at (drop at
       let r = found at (drop at input) f given in
       subst P r.1.1 (holds r.0 r.1.0)
 
-  pub starts : f.start ≡ at + 3
+  starts : f.start ≡ at + 3
   starts = by_read (λ f. f.start ≡ at + 3) (λ g is. refl)
 
-  pub inside : f.start + f.len ≤ length input
+  inside : f.start + f.len ≤ length input
   inside =
       by_read (λ f. f.start + f.len ≤ length input)
       (λ g is. omega (arith, (its input at g is).there, (its input at g is).long, length-drop at input))

@@ -1,7 +1,7 @@
 // The head of a run of calls: field 20, the device, then call fields, then field 3F with no value. The tape follows.
 #![tactic(auto)]
 
-ghost use Rattle.std.specs.Prelude.{◌≡◌, length, drop};
+ghost use Rattle.std.specs.Prelude.{◌≡◌, ◌+◌, ◌≤◌, length, drop, IfOk};
 ghost use Rattle.calls.specs.Shapes.{shape_of, below, reads, fits, lawful};
 ghost use Rattle.calls.specs.Heads.{field_at, as_field, end_from, heading_of, as_head};
 
@@ -118,7 +118,8 @@ pub fn is_lawful(tag: u8, value: &[u8]) -> bool
 // The field at `at`, or 15 where it is cut short.
 #[tactic(auto, using(crate::proofs::Steps::cut_there))]
 pub fn field_at(input: &[u8], at: usize) -> Result<Field, Error>
-    ensures { as_field result ≡ field_at at (drop at input.now) }
+    ensures field { as_field result ≡ field_at at (drop at input.now) }
+    ensures lies { IfOk result (λ field. (field.start ≡ at + 3) × (field.start + field.len ≤ length input.now)) }
 {
     let Some([tag, high, low, rest @ ..]) = input.get(at..) else {
         return Err(Error::BadTape);
