@@ -1,8 +1,9 @@
 -- The driver's record: what `new` gives, when a record is sound, and the ways in which calls change it.
 -- Assumes nothing.
-use Rattle.std.specs.Prelude.{ℕ, Bool, true, false, not, ◌&&◌, ◌||◌, ◌≡◌, eqb, leb, ltb, ℤ, pos, negsuc, replicate, Result}
+use Rattle.std.specs.Prelude.{ℕ, Bool, true, false, not, ◌&&◌, ◌||◌, ◌≡◌, eqb, leb, ltb, ℤ, pos, negsuc, replicate, Result, Ok, Err}
 use Rattle.refusals.specs.Refusal.{Refusal, Answer, value, refused, refused_if, as_answer}
 use Rattle.refusals.specs.declared.Error.{Error}
+use Rattle.refusals.specs.declared.Error.TheVariants as E
 use Rattle.sizes.specs.Sizes.{within}
 use Rattle.wiring.specs.Packs.{of_pack}
 use Rattle.laws.specs.Choice.{when◌then◌else◌}
@@ -123,6 +124,10 @@ unfoldable pub is_sound : BQ769x0 → Bool
 is_sound d =
     accepts (device_allowed d.link.x d.link.address d.cell_count)
     && (calibrated_right d && leb d.shunt.0 2147483647 && marked_right d)
+
+-- what the code answers of it
+abbrev pub soundness : BQ769x0 → Result Done Error
+soundness d = when is_sound d then Ok tt else Err E.BadDevice
 
 -- ---- the ways in which calls change a record
 -- a calibration that was read

@@ -1,7 +1,7 @@
 // The record: made by `new`, changed by the setters below, and sound or not.
 ghost use Rattle.std.specs.Prelude.{◌≡◌, false};
 ghost use Rattle.bq769x0.specs.Record.{unread, of_parts, head_of, with_head, fresh, device_allowed, as_made, as_new, new_for};
-ghost use Rattle.bq769x0.specs.Record.{leaves, calibrated_right, marked_right, is_sound, with_calibration, with_shunt, with_readings};
+ghost use Rattle.bq769x0.specs.Record.{leaves, calibrated_right, marked_right, is_sound, soundness, with_calibration, with_shunt, with_readings};
 ghost use Rattle.bq769x0.specs.declared.Readings.{Readings};
 
 use crate::{BQ769x0, Head, Readings, Spread};
@@ -136,6 +136,17 @@ impl BQ769x0 {
             && self.is_calibrated_right()
             && self.shunt.0 <= 2_147_483_647
             && self.is_marked_right()
+    }
+
+    // 9 where it is not sound: a call's first step.
+    #[inline(always)]
+    pub fn sound(&self) -> Result<(), Error>
+        ensures { result ≡ soundness self.now }
+    {
+        if !self.is_sound() {
+            return Err(Error::BadDevice);
+        }
+        Ok(())
     }
 
     fn is_calibrated_right(&self) -> bool

@@ -15,9 +15,7 @@ use refusals::Error;
 pub fn enable_balancing(device: &BQ769x0, cells: u8, bus: &mut Bus) -> Result<(), Error>
     ensures { does (enable_balancing device.now cells) bus (as_raw result) }
 {
-    if !device.is_sound() {
-        return Err(Error::BadDevice);
-    }
+    device.sound()?;
     short::write(device.link, 0x01, &[cells], bus)
 }
 
@@ -32,9 +30,7 @@ pub fn balancing_state(device: &BQ769x0, bus: &mut Bus) -> Result<u8, Error>
 pub fn balance_set(device: &BQ769x0, set: u16, limit: u8, bus: &mut Bus) -> Result<(), Error>
     ensures { does (balance_set device.now set limit) bus (as_raw result) }
 {
-    if !device.is_sound() {
-        return Err(Error::BadDevice);
-    }
+    device.sound()?;
     let link = device.link;
     cellbal::judge(link.x, set, limit)?;
     let registers = cellbal::registers(set);
@@ -46,9 +42,7 @@ pub fn balance_set(device: &BQ769x0, set: u16, limit: u8, bus: &mut Bus) -> Resu
 pub fn balance_get(device: &BQ769x0, bus: &mut Bus) -> Result<u16, Error>
     ensures { does (balance_get device.now) bus (as_set result) }
 {
-    if !device.is_sound() {
-        return Err(Error::BadDevice);
-    }
+    device.sound()?;
     let link = device.link;
     let n = cellbal::register_count(link.x);
     let mut registers = [0u8; 3];

@@ -17,17 +17,13 @@ pub fn read_raw(
 ) -> Result<(), Error>
     ensures { does (read_raw device.now reg_address «data».old) bus (gives (as_raw result) «data».new) }
 {
-    if !device.is_sound() {
-        return Err(Error::BadDevice);
-    }
+    device.sound()?;
     raw::read_raw(device.link, reg_address, data, bus)
 }
 
 pub fn write_raw(device: &BQ769x0, reg_address: u8, data: &[u8], bus: &mut Bus) -> Result<(), Error>
     ensures { does (write_raw device.now reg_address «data».now) bus (as_raw result) }
 {
-    if !device.is_sound() {
-        return Err(Error::BadDevice);
-    }
+    device.sound()?;
     raw::write_raw(device.link, reg_address, data, bus)
 }

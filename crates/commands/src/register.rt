@@ -18,9 +18,7 @@ use refusals::Error;
 pub(crate) fn read_register(device: &BQ769x0, reg: u8, bus: &mut Bus) -> Result<u8, Error>
     ensures { does (soundly device.now (refused nine) (read_register device.now.link reg)) bus (as_byte result) }
 {
-    if !device.is_sound() {
-        return Err(Error::BadDevice);
-    }
+    device.sound()?;
     let mut data = [0u8; 1];
     short::read(device.link, reg, &mut data, bus)?;
     Ok(data[0])

@@ -11,9 +11,7 @@ use refusals::Error;
 pub fn ship_enter(device: &BQ769x0, bus: &mut Bus) -> Result<(), Error>
     ensures { does (ship_enter device.now) bus (as_raw result) }
 {
-    if !device.is_sound() {
-        return Err(Error::BadDevice);
-    }
+    device.sound()?;
     let link = device.link;
     short::write(link, 0x04, &[0b0000_0000], bus)?;
     short::write(link, 0x04, &[0b0000_0001], bus)?;

@@ -24,9 +24,7 @@ pub fn sys_stat(device: &BQ769x0, bus: &mut Bus) -> Result<Stat, Error>
 pub fn sys_stat_reset(device: &BQ769x0, flags: SysStat, bus: &mut Bus) -> Result<(), Error>
     ensures { does (sys_stat_reset device.now flags) bus (as_raw result) }
 {
-    if !device.is_sound() {
-        return Err(Error::BadDevice);
-    }
+    device.sound()?;
     if flags.has_reserved() {
         return Err(Error::UnknownFlags);
     }

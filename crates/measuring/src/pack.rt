@@ -14,9 +14,7 @@ use units::{MilliAmperes, MilliVolts};
 pub fn current(device: &BQ769x0, bus: &mut Bus) -> Result<MilliAmperes, Error>
     ensures { does (current device.now) bus (as_current result) }
 {
-    if !device.is_sound() {
-        return Err(Error::BadDevice);
-    }
+    device.sound()?;
     if !device.init_complete {
         return Err(Error::Uninitialized);
     }
@@ -28,9 +26,7 @@ pub fn current(device: &BQ769x0, bus: &mut Bus) -> Result<MilliAmperes, Error>
 pub fn voltage(device: &BQ769x0, bus: &mut Bus) -> Result<MilliVolts, Error>
     ensures { does (voltage device.now) bus (as_voltage result) }
 {
-    if !device.is_sound() {
-        return Err(Error::BadDevice);
-    }
+    device.sound()?;
     let vv = word::read_word(device.link, 0x2a, bus)?;
     let adc = device.adc;
     Ok(adc.pack_voltage(device.cell_count, vv))

@@ -15,9 +15,7 @@ use refusals::Error;
 pub fn temperature(device: &BQ769x0, bus: &mut Bus) -> Result<Temperature, Error>
     ensures { does (temperature device.now) bus (as_temperature result) }
 {
-    if !device.is_sound() {
-        return Err(Error::BadDevice);
-    }
+    device.sound()?;
     let ts = word::read_word(device.link, 0x2c, bus)?;
     let source = control::temperature_source(device, bus)?;
     Ok(degrees::of_reading(ts, source))

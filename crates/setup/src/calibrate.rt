@@ -15,9 +15,7 @@ use refusals::Error;
 pub fn read_adc_characteristics(device: &mut BQ769x0, bus: &mut Bus) -> Result<(), Error>
     ensures { does (read_adc_characteristics device.old) bus (leaves (as_raw result) device.new) }
 {
-    if !device.is_sound() {
-        return Err(Error::BadDevice);
-    }
+    device.sound()?;
     device.store_calibration(calibrate(device.link, bus)?);
     Ok(())
 }

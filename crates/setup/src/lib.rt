@@ -21,9 +21,7 @@ mod stages;
 pub fn init(device: &mut BQ769x0, config: Config, bus: &mut Bus) -> Result<CalculatedValues, Error>
     ensures { does (init_by steps_for device.old config) bus (leaves (as_init result) device.new) }
 {
-    if !device.is_sound() {
-        return Err(Error::BadDevice);
-    }
+    device.sound()?;
     let mut head = device.head();
     let answer = set_up(&mut head, config, bus);
     device.set_head(head);
