@@ -1,8 +1,8 @@
 // Up to eight registers read and written, as `read_raw` and `write_raw` do it: by the short way of `well` where it can be gone, else by the
 // long way from the start. Each is inlined where it is called, so that a count known there makes frames of that size and no loops.
-ghost use Rattle.std.specs.Prelude.{◌≡◌, false, ◌*◌, ◌≤◌, length};
+ghost use Rattle.std.specs.Prelude.{◌≡◌, true, false, ◌+◌, ◌*◌, ◌≤◌, length};
 ghost use Rattle.bus.specs.Lent.{does};
-ghost use Rattle.bus.specs.Raw.{as_raw, gives, read_raw, write_raw};
+ghost use Rattle.bus.specs.Raw.{sound, as_raw, gives, read_raw, write_raw};
 ghost use Rattle.raw.specs.Inside.{taken};
 
 use crate::{long, well};
@@ -11,13 +11,21 @@ use bus::link::Link;
 use check_byte::{check_byte1, check_byte2};
 use refusals::Error;
 
+// Whether the short way may be tried, for so few.
+#[inline(always)]
+fn can_go(link: Link, reg: u8, data: &[u8]) -> bool
+    ensures { result ≡ true → (sound link ≡ true) × (reg + length «data».now ≤ 256) × (length «data».now ≤ 8) }
+{
+    crate::can_go(link, reg, data) & (data.len() <= 8)
+}
+
 #[inline(always)]
 pub fn read_few(link: Link, reg: u8, data: &mut [u8], bus: &mut Bus) -> Result<(), Error>
     ensures { does (read_raw link reg «data».old) bus (gives (as_raw result) «data».new) }
 {
     let address = link.address;
     let n = data.len();
-    if link.is_sound() & (n <= 8) & (reg as usize + n <= 256) {
+    if can_go(link, reg, data) {
         if !link.check {
             if well::got(address, reg, data, bus) {
                 return Ok(());
@@ -58,7 +66,7 @@ pub fn write_few(link: Link, reg: u8, data: &[u8], bus: &mut Bus) -> Result<(), 
 {
     let address = link.address;
     let n = data.len();
-    if link.is_sound() & (n != 0) & (n <= 8) & (reg as usize + n <= 256) {
+    if can_go(link, reg, data) & (n != 0) {
         let mut out = [0u8; 17];
         let size = frames::write_frame(link.check, address, reg, data, &mut out);
         let frame = &out[..size];

@@ -1,10 +1,10 @@
 // The chip's registers, read and written over a link, with check bytes or without.
 #![tactic(auto)]
 
-ghost use Rattle.std.specs.Prelude.{◌≡◌, ◌+◌, ◌*◌, ◌≤◌, length, replicate, take};
+ghost use Rattle.std.specs.Prelude.{◌≡◌, true, ◌+◌, ◌*◌, ◌≤◌, length, replicate, take};
 ghost use Rattle.frames.specs.Put.{put};
 ghost use Rattle.bus.specs.Lent.{does};
-ghost use Rattle.bus.specs.Raw.{as_raw, gives, read_raw, ask_write, send, compared, write_raw};
+ghost use Rattle.bus.specs.Raw.{sound, as_raw, gives, read_raw, ask_write, send, compared, write_raw};
 ghost use Rattle.raw.specs.Inside.{taken};
 
 use bus::Bus;
@@ -31,12 +31,20 @@ fn compare(reg: u8, data: &[u8], back: &[u8]) -> Result<(), Error>
     Ok(())
 }
 
+// Whether the short way may be tried: the link is sound, and the registers are among the chip's.
+#[inline(always)]
+fn can_go(link: Link, reg: u8, data: &[u8]) -> bool
+    ensures { result ≡ true → (sound link ≡ true) × (reg + length «data».now ≤ 256) }
+{
+    link.is_sound() & (reg as usize + data.len() <= 256)
+}
+
 pub fn read_raw(link: Link, reg_address: u8, data: &mut [u8], bus: &mut Bus) -> Result<(), Error>
     ensures { does (read_raw link reg_address «data».old) bus (gives (as_raw result) «data».new) }
 {
     let address = link.address;
     let n = data.len();
-    if link.is_sound() & (reg_address as usize + n <= 256) {
+    if can_go(link, reg_address, data) {
         if !link.check {
             if well::got(address, reg_address, data, bus) {
                 return Ok(());
@@ -71,6 +79,7 @@ fn take_frame(address: u8, frame: &[u8; 66], fault: bool, data: &mut [u8]) -> Re
 }
 
 // One write that is not read back.
+#[tactic(auto, using(bus::proofs::Raws::send_unsound, bus::proofs::Raws::send_large, bus::proofs::Raws::send_empty, bus::proofs::Raws::send_out, bus::proofs::Raws::send_goes))]
 pub fn send(link: Link, reg_address: u8, data: &[u8], bus: &mut Bus) -> Result<(), Error>
     ensures { does (send link reg_address «data».now) bus (as_raw result) }
 {

@@ -19,6 +19,7 @@ fn plain_read(link: Link, reg: u8, data: &mut [u8], bus: &mut Bus) -> Result<(),
 }
 
 // With checks: 3, empty, 14, then twice the bytes.
+#[tactic(auto, using(bus::proofs::Raws::checked_large, bus::proofs::Raws::checked_empty, bus::proofs::Raws::checked_out, bus::proofs::Raws::checked_goes))]
 fn checked_read(link: Link, reg: u8, data: &mut [u8], bus: &mut Bus) -> Result<(), Error>
     requires { link.x ≤ 15 }
     ensures { does (checked_read link reg «data».old) bus (gives (as_raw result) «data».new) }
@@ -47,6 +48,7 @@ fn read_frame(address: u8, reg: u8, data: &mut [u8], bus: &mut Bus) -> Result<()
     crate::take_frame(address, &frame, made.fault, data)
 }
 
+#[tactic(auto, using(bus::proofs::Raws::read_unsound, bus::proofs::Raws::read_checked, bus::proofs::Raws::read_plain))]
 pub(crate) fn read_long(link: Link, reg: u8, data: &mut [u8], bus: &mut Bus) -> Result<(), Error>
     ensures { does (read_raw link reg «data».old) bus (gives (as_raw result) «data».new) }
 {

@@ -89,6 +89,7 @@ pub(crate) fn put_field(log: &mut [u8], at: usize, tag: u8, first: u8, rest: &[u
 }
 
 // The field of a read, into the log at `at`.
+#[tactic(auto, unfolding(bus::specs::Transfers::log_field))]
 #[inline(always)]
 pub(crate) fn log_read(log: &mut [u8], at: usize, address: u8, reg: u8, count: usize)
     requires { at + 7 ≤ length log.old }
