@@ -28,9 +28,7 @@ pub(crate) fn read(
     ensures read { does (reads device.now room) bus (answering (as_raw result) (take device.now.link.x inputs.new)) }
     ensures ready { IfOk result (λ _. Ready device.now room inputs.new) }
 {
-    if !device.is_sound() {
-        return Err(Error::BadDevice);
-    }
+    device.sound()?;
     if !device.init_complete {
         return Err(Error::Uninitialized);
     }
