@@ -23,15 +23,7 @@ pub fn job(
 
 // The first field that is no call is at fault.
 pub fn calls(rt: &(impl Print + Eprint), input: &[u8], calls_at: usize) -> io::Result<()> {
-    let mut at = calls_at;
-    while let Ok(field) = calls::field_at(input, at) {
-        let end = field.start + field.len;
-        if !calls::is_lawful(field.tag, &input[field.start..end]) {
-            break;
-        }
-        at = end;
-    }
-    field_at(rt, input, at)
+    field_at(rt, input, calls::past_calls(input, calls_at))
 }
 
 // The field at a place, or field 3F where the job ends there.

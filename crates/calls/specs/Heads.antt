@@ -27,6 +27,15 @@ field_at at bytes = found_at at (unfield bytes)
 abbrev pub as_field : Result Field Error → Answer Field
 as_field = as_answer (λ field. field)
 
+-- past the calls: where the first field stands that is none; there are no more fields than bytes
+abbrev pub past_by : (ℕ → List ℕ → ℕ) → ℕ → Option read.Field → ℕ
+past_by next at (some f) = cond (lawful f.tag f.value) (next (at + (3 + length f.value)) f.rest) at
+past_by next at none = at
+
+unfoldable pub past_from : ℕ → ℕ → List ℕ → ℕ
+past_from zero at bytes = at
+past_from (suc fields) at bytes = past_by (past_from fields) at (unfield bytes)
+
 -- 3F 0000
 abbrev pub is_end : read.Field → Bool
 is_end f = eqb f.tag 0x3F && eqb (length f.value) 0

@@ -3,7 +3,7 @@
 
 ghost use Rattle.std.specs.Prelude.{◌≡◌, ◌+◌, ◌≤◌, length, drop, IfOk};
 ghost use Rattle.calls.specs.Shapes.{shape_of, below, reads, fits, lawful};
-ghost use Rattle.calls.specs.Heads.{field_at, as_field, end_from, heading_of, as_head};
+ghost use Rattle.calls.specs.Heads.{field_at, as_field, past_from, end_from, heading_of, as_head};
 
 use job::Device;
 use refusals::Error;
@@ -135,22 +135,31 @@ pub fn field_at(input: &[u8], at: usize) -> Result<Field, Error>
     })
 }
 
+// Past the calls that stand from a place on: where the first field stands that is none.
+pub fn past_calls(input: &[u8], calls_at: usize) -> usize
+    ensures { result ≡ past_from (length input.now) calls_at (drop calls_at input.now) }
+{
+    let mut at = calls_at;
+    while let Ok(field) = field_at(input, at) {
+        let end = field.start + field.len;
+        if !is_lawful(field.tag, &input[field.start..end]) {
+            break;
+        }
+        at = end;
+    }
+    at
+}
+
 // The field that ends the calls, each of which is lawful; or 15.
 fn end_of_calls(input: &[u8]) -> Result<Field, Error>
     ensures { as_field result ≡ end_from (length input.now) 7 (drop 7 input.now) }
 {
-    let mut at = CALLS_AT;
-    while let Ok(field) = field_at(input, at) {
-        if (field.tag == END) & (field.len == 0) {
-            return Ok(field);
-        }
-        let end = field.start + field.len;
-        if !is_lawful(field.tag, &input[field.start..end]) {
-            return Err(Error::BadTape);
-        }
-        at = end;
+    let field = field_at(input, past_calls(input, CALLS_AT))?;
+    if (field.tag == END) & (field.len == 0) {
+        Ok(field)
+    } else {
+        Err(Error::BadTape)
     }
-    Err(Error::BadTape)
 }
 
 // The head that bytes begin with, or 15.
