@@ -1,4 +1,4 @@
-// The register commands for the bench's C, each on a tape and a log that nothing is used of: as the calls of `bench` are.
+// The register commands for the bench's C, each on a tape and a log that nothing is used of: as the calls of `bench_c` are.
 #![tactic(auto)]
 
 ghost use Rattle.std.specs.Prelude.{◌≡◌, []};

@@ -2,7 +2,7 @@
 ghost use Rattle.std.specs.Prelude.{◌≡◌};
 ghost use Rattle.bus.specs.Raw.{sound};
 
-// How a chip is spoken to: its bus address, whether with check bytes, and its count of inputs.
+// Its bus address, whether with check bytes, and its count of inputs.
 #[derive(Clone, Copy, PartialEq, Eq)]
 pub struct Link {
     pub address: u8,

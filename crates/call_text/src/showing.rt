@@ -1,7 +1,6 @@
 // What a call answered, as its line; and the lists and the data that were lent it.
 use crate::making::{Call, Lent, Told};
 use crate::record;
-use crate::record::Volts;
 use commands::control::TemperatureSource;
 use measuring::degrees::Temperature;
 use std::{fmt, io};
@@ -46,7 +45,7 @@ pub(crate) fn answer(rt: &impl Print, told: Told, lent: &Lent, count: usize) -> 
         Told::Source(TemperatureSource::ExternalThermistor) => println!(rt; "source thermistor"),
         Told::CellOn(cell) => println!(rt; "cellon {cell}"),
         Told::BalanceGet(set) => println!(rt; "balanceget {set}"),
-        Told::Spread(spread) => println!(rt; "spread{}", Volts(&record::figures(spread))),
+        Told::Spread(spread) => println!(rt; "spread{}", Spaced(&record::figures(spread))),
     }
 }
 

@@ -1,5 +1,4 @@
 // A number of registers that is known when it is compiled: `few` for each such number once.
-ghost use Rattle.std.specs.Prelude.{◌≡◌};
 ghost use Rattle.bus.specs.Lent.{does};
 ghost use Rattle.bus.specs.Raw.{as_raw, gives, read_raw, write_raw};
 

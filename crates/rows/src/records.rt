@@ -1,4 +1,4 @@
-// The same about records, and about transfers over a tape and a log.
+// What docs/DIFFERENCES.md lists and no job can ask for, as in `beyond`, but about records and about transfers over a tape and a log.
 use crate::print::{refusal, rows};
 use bq769x0::BQ769x0;
 use bus::Bus;

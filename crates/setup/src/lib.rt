@@ -1,7 +1,6 @@
 // Setting up: the crate's `init`.
 #![tactic(auto)]
 
-ghost use Rattle.std.specs.Prelude.{◌≡◌};
 ghost use Rattle.bus.specs.Lent.{does};
 ghost use Rattle.plan.specs.Steps.{steps_for};
 ghost use Rattle.plan.specs.Plan.{as_init};
