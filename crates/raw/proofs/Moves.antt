@@ -161,6 +161,11 @@ module _ (address : ℕ) (frame : List ℕ) where
   unfolding log_field field
   need = omega arith
 
+  -- and the log has room for it
+  pub has_room : (b : Bus) → Heard 0 (drop b.at.tape b.tape) (outcome (write address frame) b) (whole 0) → b.at.log + (4 + length frame) ≤ length b.log
+  unfolding wanted
+  has_room b h = omega (arith, need, room (write address frame) b _ _ h)
+
   module _ (b b' : Bus) (by : WrittenBy (write address frame) (whole 0) b b') where
     next_is : b' ≡ bus_of b.tape (put b.log b.at.log (log_field (write address frame)))
         (record { tape = b.at.tape + 3; log = b.at.log + length (log_field (write address frame)) })

@@ -52,6 +52,7 @@ fn take(address: u8, reg: u8, buf: &mut [u8], bus: &mut Bus)
 }
 
 // A write that is done: its field into the log.
+#[tactic(auto, using(crate::proofs::Moves::has_room))]
 #[inline(always)]
 fn put(address: u8, frame: &[u8], bus: &mut Bus)
     requires heard { Heard 0 (drop bus.old.at.tape bus.old.tape.now)
