@@ -2,7 +2,7 @@
 #![tactic(auto)]
 
 use bus::Cursor;
-use plan::{CalculatedValues, answer};
+use plan::CalculatedValues;
 use std::io;
 
 mod log_fields;
@@ -20,9 +20,12 @@ pub fn transfers(rt: &impl Print, log: &[u8], from: Cursor, to: Cursor) -> io::R
 
 // What an init reports.
 pub fn init(rt: &impl Print, values: CalculatedValues) -> io::Result<()> {
-    let numbers = answer::in_numbers(&Ok(values));
     println!(rt;
         "init range {} scd {} ocd {} uv {} ov {}",
-        numbers.0, numbers.1, numbers.2, values.uv_threshold.0, values.ov_threshold.0
+        values.ocdscd_range_used as u8,
+        values.scd_threshold.0,
+        values.ocd_threshold.0,
+        values.uv_threshold.0,
+        values.ov_threshold.0
     )
 }
