@@ -7,7 +7,7 @@ use chip::Chip;
 use std::io;
 
 // The least field of a tape has three bytes.
-pub(crate) const MOST: usize = 10_922;
+pub(crate) const MOST: usize = crate::SIZE / 3;
 
 // The job of the calls, and what they are made on: a record, and a chip; of each transfer, after how many bytes it is cut, if it is.
 #[derive(Drop)]
@@ -64,10 +64,6 @@ impl Bench<'_> {
         let mut bus = Bus::new(tape, log);
         call_text::in_turn(rt, self.job, Prints::Nothing, &mut device, &mut bus)?;
         let to = bus.at;
-        Ok(if filled.tape < to.tape {
-            Some(to)
-        } else {
-            None
-        })
+        Ok((filled.tape < to.tape).then_some(to))
     }
 }
