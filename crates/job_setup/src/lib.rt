@@ -15,7 +15,7 @@ use refusals::Error;
 pub fn init(job: &[u8], device: &mut BQ769x0, bus: &mut Bus) -> Result<CalculatedValues, Error>
     ensures { does (job_init job.now) bus (leaves (as_init result) device.new) }
 {
-    let mut head = device.head();
+    let mut head = Head::none();
     let answer = set_up(job, &mut head, bus);
     *device = BQ769x0::of_head(head);
     answer
