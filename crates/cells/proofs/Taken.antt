@@ -8,7 +8,7 @@ use native.Mathlib.Omega.{arith}
 use lib.Dec.{T, leb, leb→le}
 use lib.IntN.{ℤ, pos, nat_abs}
 use lib.ListN.{length, take, get_or, length-map, get_or-map}
-use lib.Seq.{get_or-take}
+use lib.Seq.{get_or-take, take_at}
 use Rattle.units.specs.declared.MilliVolts.{MilliVolts}
 use Rattle.sizes.specs.Sizes.{is_count}
 use Rattle.sizes.proofs.Sizes.{at_most_15}
@@ -53,6 +53,10 @@ module _ (x n : ℕ) (pack : T (is_count x n)) where
 
   pub many_volts : (readings : List ℤ) → length (voltages x n readings) ≡ n
   many_volts readings = length-map (fitted x n) (of_input readings) ∙ as_many x n pack
+
+  -- and they stand first in a list that they were put over
+  pub first_volts : (readings list : List ℤ) → take n (voltages x n readings over list) ≡ voltages x n readings
+  first_volts readings list = take_at (voltages x n readings) _ n (many_volts readings)
 
   -- ---- what is made of their millivolts
   module _ (held : Readings) (inputs : List ℤ) (wide : length inputs ≡ 16) (few : Small x inputs) (volts : List ℤ)

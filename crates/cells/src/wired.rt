@@ -1,4 +1,6 @@
 // The cells by the datasheet's wiring: each fitted input once, bottom of the pack first, with its number beside it.
+ghost use Rattle.std.specs.Prelude.{◌≡◌, ◌≤◌, length};
+ghost use Rattle.laws.specs.Over.{◌over◌};
 ghost use Rattle.bus.specs.Lent.{does};
 ghost use Rattle.bus.specs.Raw.{as_raw};
 ghost use Rattle.procedure.specs.Wired.{shown, wired};
@@ -9,6 +11,7 @@ use bus::Bus;
 use refusals::Error;
 use wiring::tables;
 
+#[inline(always)]
 pub fn wired(
     device: &mut BQ769x0,
     inputs: &mut [u8],
@@ -21,7 +24,7 @@ pub fn wired(
     let (x, n) = (device.link.x, device.cell_count);
     let mut millivolts = [0; 16];
     taking::read(device, inputs.len().min(list.len()), &mut millivolts, bus)?;
-    inputs[..n as usize].copy_from_slice(tables::fitted(x, n));
+    show(tables::fitted(x, n), inputs);
     taking::by_wiring(x, n, &millivolts, list);
     taking::take(
         x,
@@ -31,4 +34,14 @@ pub fn wired(
         &mut device.readings,
     );
     Ok(())
+}
+
+// The fitted inputs, over the first of the caller's: a byte a turn, as `raw::transfer` copies.
+fn show(fitted: &[u8], inputs: &mut [u8])
+    requires { length fitted.now ≤ length inputs.old }
+    ensures { inputs.new ≡ fitted.now over inputs.old }
+{
+    for (i, &input) in fitted.iter().enumerate() {
+        inputs[i] = input;
+    }
 }

@@ -1,6 +1,5 @@
 // The register commands: free functions, since the record is another crate's type. None of them changes the record.
-// Each tests it first, 9 where it is not sound, and then goes by its link. What several of them share is inlined in each,
-// so that the count and the register are known where frames are made.
+// Each tests it first, 9 where it is not sound, and then goes by its link. What several of them share is inlined in each.
 #![tactic(auto, using(crate::proofs::Steps::steps))]
 
 pub mod balancing;

@@ -1,5 +1,5 @@
 // Up to eight registers read and written, as `read_raw` and `write_raw` do it: by the short way of `well` where it can be gone, else by the
-// long way from the start. Each is inlined where it is called, so that a count known there makes frames of that size and no loops.
+// long way from the start. Each is inlined where it is called, so that the compiler knows a count that is known there.
 ghost use Rattle.std.specs.Prelude.{◌≡◌, true, false, ◌+◌, ◌*◌, ◌≤◌, length};
 ghost use Rattle.bus.specs.Lent.{does};
 ghost use Rattle.bus.specs.Raw.{sound, as_raw, gives, read_raw, write_raw};

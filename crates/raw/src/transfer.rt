@@ -1,6 +1,7 @@
 // One transfer: what the tape says to it, and its field in the log.
 ghost use Rattle.std.specs.Prelude.{◌≡◌, ◌+◌, ◌≤◌, ◌∷◌, leb, length, drop};
 ghost use Rattle.frames.specs.Put.{put};
+ghost use Rattle.laws.specs.Over.{◌over◌};
 ghost use Rattle.fields.specs.Fields.{field};
 ghost use Rattle.bus.specs.Transfers.{read, write, log_field, says, answered};
 ghost use Rattle.bus.specs.Raw.{as_raw};
@@ -99,6 +100,16 @@ pub(crate) fn log_read(log: &mut [u8], at: usize, address: u8, reg: u8, count: u
     put_field(log, at, 0x12, address, &rest);
 }
 
+// All of src over the first of dst: a byte a turn, since for a copy at once of what may overlap the library for C would want `memmove` from outside.
+fn copy_in(src: &[u8], dst: &mut [u8])
+    requires { length src.now ≤ length dst.old }
+    ensures { dst.new ≡ src.now over dst.old }
+{
+    for (i, &byte) in src.iter().enumerate() {
+        dst[i] = byte;
+    }
+}
+
 // i2c.write_read(address, &[reg], buf)
 #[inline(always)]
 pub(crate) fn transfer_read(
@@ -114,7 +125,7 @@ pub(crate) fn transfer_read(
     log_read(bus.log, bus.at.log, address, reg, count);
     let start = bus.at.tape + 3;
     let end = start + made.len;
-    buf[..made.len].copy_from_slice(&bus.tape[start..end]);
+    copy_in(&bus.tape[start..end], buf);
     bus.at = Cursor {
         tape: end,
         log: bus.at.log + 7,

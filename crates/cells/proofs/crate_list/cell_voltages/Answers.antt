@@ -1,7 +1,7 @@
 -- `cells::crate_list::cell_voltages` meets its contract: it tells what the read gave.
 -- Assumes nothing.
 use Rattle.std.proofs.Common.{◌≡◌, ℕ, List, ◌++◌, length, take, drop, ℤ, T, sym, ap, subst, ◌∙◌, arith, rules}
-use lib.Seq.{take_at, length-take-le}
+use lib.Seq.{length-take-le}
 use Rattle.laws.specs.Over.{◌over◌}
 use Rattle.refusals.specs.Refusal.{Refusal, value, refused}
 use Rattle.sizes.proofs.Sizes.{at_most_15}
@@ -11,10 +11,10 @@ use Rattle.bus.specs.Lent.{held}
 use Rattle.bq769x0.specs.Figures.{first_cells}
 use Rattle.bq769x0.specs.declared.BQ769x0.{BQ769x0}
 use Rattle.bq769x0.specs.declared.Readings.{Readings}
-use Rattle.procedure.specs.Taking.{voltages, taking}
+use Rattle.procedure.specs.Taking.{taking}
 use Rattle.procedure.specs.Cells.{Filled, untouched, listed, read_cells, cell_voltages}
 use Rattle.cells.specs.Inside.{reads}
-use Rattle.cells.proofs.Taken.{many_volts}
+use Rattle.cells.proofs.Taken.{first_volts}
 use Rattle.cells.proofs.Told.{tells}
 use Rattle.cells.proofs.crate_list.cell_voltages.Goals as goal
 
@@ -39,10 +39,7 @@ returns-in_err-read c =
 pub take-requires-clause-volts : goal.take-requires-clause-volts
 take-requires-clause-volts c =
     let d = c.args.device.now in
-    let readings = take d.link.x c.read.new.inputs in
-    let volts = voltages d.link.x d.cell_count readings in
-    let many = many_volts d.link.x d.cell_count (subst T (sym c.in_ok-read.ensures.ready.pack) tt) readings in
-    rw c.by_wiring.ensures (take_at volts _ d.cell_count many)
+    rw c.by_wiring.ensures (first_volts d.link.x d.cell_count (subst T (sym c.in_ok-read.ensures.ready.pack) tt) (take d.link.x c.read.new.inputs) _)
 
 pub returns : goal.returns
 returns c =

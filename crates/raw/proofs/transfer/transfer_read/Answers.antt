@@ -1,6 +1,6 @@
 -- Where the transfer is not made bus and buffer stay; where it is, its field stands in the log and the bytes delivered in the buffer.
 -- Assumes nothing.
-use Rattle.std.proofs.Common.{ℕ, ◌≡◌, ◌+◌, ◌≤◌, length, take, drop, arith, refl, sym}
+use Rattle.std.proofs.Common.{ℕ, ◌+◌, ◌≤◌, length, take, drop, arith, refl, ◌∙◌}
 use Rattle.std.proofs.lemmas.Result.{err_from_is_err_and}
 use native.Mathlib.Nat.{add-sub_cancel_left}
 use Rattle.fields.specs.Fields.{field}
@@ -43,7 +43,5 @@ returns c =
     let m = c.in_ok-made.made in
     let b = held a.bus.now in
     let h = heard a.address a.reg (length a.buf.now) b c.in_ok-made.ensures in
-    let copied : c.copy_from_slice.new.self ≡ take m.len (drop (a.bus.now.at.tape + 3) a.bus.now.tape.now) =
-    rw (add-sub_cancel_left (a.bus.now.at.tape + 3) m.len) at c.copy_from_slice.ensures.after in
-    let size = length_bytes (read a.address a.reg (length a.buf.now)) b m.fault m.len h in
-    (read_by _ b m.fault m.len h _ _ 7 c.log_read.ensures refl refl _ _ refl (put_front a.buf.now _ _ m.len copied (sym size)), refl)
+    let copied = rw (add-sub_cancel_left (a.bus.now.at.tape + 3) m.len) at c.copy_in.ensures in
+    (read_by _ b m.fault m.len h _ _ 7 c.log_read.ensures refl refl _ _ refl (copied ∙ put_front a.buf.now _ _ _ refl refl), refl)
