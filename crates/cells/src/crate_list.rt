@@ -12,6 +12,7 @@ use bus::Bus;
 use refusals::Error;
 use units::MilliVolts;
 
+#[inline(always)]
 pub fn cell_voltages(device: &mut BQ769x0, list: &mut [i32], bus: &mut Bus) -> Result<(), Error>
     ensures { does (cell_voltages device.old list.old) bus (filled (as_raw result) device.new list.new) }
 {

@@ -7,6 +7,7 @@ use bq769x0::Spread;
 use units::MilliVolts;
 
 // Of at least one cell, each small.
+#[inline(always)]
 pub(crate) fn spread_of(millivolts: &[i32]) -> Spread
     requires { (1 ≤ length millivolts.now) × (length millivolts.now ≤ 15) × Small (length millivolts.now) millivolts.now }
     ensures { result ≡ spread_of millivolts.now }

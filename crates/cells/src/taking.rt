@@ -19,6 +19,7 @@ use wiring::tables;
 
 // All inputs, for a caller with room for so many cells: 9, 4, 19, then as they are read.
 #[tactic(auto, using(bus::proofs::Steps::step), unfolding(bus::specs::Programs::proceed, bus::specs::Programs::on_tape))]
+#[inline(always)]
 pub(crate) fn read(
     device: &BQ769x0,
     room: usize,
@@ -39,6 +40,7 @@ pub(crate) fn read(
 }
 
 // The fitted inputs' millivolts, over the first of the list.
+#[inline(always)]
 pub(crate) fn by_wiring(x: u8, cell_count: u8, inputs: &[i32; 16], list: &mut [i32])
     requires pack { is_count x cell_count ≡ true }
     requires room { cell_count ≤ length list.old }
@@ -51,6 +53,7 @@ pub(crate) fn by_wiring(x: u8, cell_count: u8, inputs: &[i32; 16], list: &mut [i
 }
 
 // What a reading of all inputs leaves of the readings held, with the fitted ones' millivolts at hand; the inputs are moved on the way.
+#[inline(always)]
 pub(crate) fn take(
     x: u8,
     cell_count: u8,
@@ -71,6 +74,7 @@ pub(crate) fn take(
 }
 
 // The numbers, over the cells held.
+#[inline(always)]
 fn store(millivolts: &[i32], cells: &mut [MilliVolts; 15])
     requires { length millivolts.now ≤ 15 }
     ensures { cells.new ≡ as_cells millivolts.now over cells.old }

@@ -43,6 +43,7 @@ pub fn bq769x0_init(job: &[u8], tape: &[u8], log: &mut [u8], out: &mut [u8; 36])
 
 // The init of a job, and one cell reading after it.
 #[tactic(auto, using(bus::proofs::Steps::steps, bus::proofs::Programs::on_tape_bind), unfolding(crate::specs::JobCells::job_cells))]
+#[inline(always)]
 pub fn init_cells(
     job: &[u8],
     device: &mut BQ769x0,
@@ -74,6 +75,7 @@ pub fn bq769x0_init_cells(
 
 // The init of a job, and one cell reading by the wiring after it.
 #[tactic(auto, using(bus::proofs::Steps::steps, bus::proofs::Programs::on_tape_bind), unfolding(crate::specs::JobWired::job_wired))]
+#[inline(always)]
 pub fn init_wired(
     job: &[u8],
     device: &mut BQ769x0,

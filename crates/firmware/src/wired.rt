@@ -13,6 +13,7 @@ use refusals::Error;
 // The reading of a device that was set up with these values, which are then the answer;
 // a refusal leaves both lists as they were.
 #[tactic(auto, using(bus::proofs::Steps::steps, bus::proofs::Programs::on_tape_bind, layout::proofs::Room::stored_first, layout::proofs::Room::has_room_is), unfolding(crate::specs::JobWired::read_wired))]
+#[inline(always)]
 pub(crate) fn read_wired(
     values: CalculatedValues,
     device: &mut BQ769x0,

@@ -12,6 +12,7 @@ use plan::CalculatedValues;
 use refusals::Error;
 
 // 15, then 9, 10, 11, then the init; where no device was made, one of size 0 is left.
+#[inline(always)]
 pub fn init(job: &[u8], device: &mut BQ769x0, bus: &mut Bus) -> Result<CalculatedValues, Error>
     ensures { does (job_init job.now) bus (leaves (as_init result) device.new) }
 {
