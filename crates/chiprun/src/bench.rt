@@ -15,7 +15,7 @@ pub(crate) struct Bench<'a> {
     pub job: &'a [u8],
     pub device: BQ769x0,
     pub chip: Chip,
-    pub cuts: &'a [Option<usize>],
+    pub cuts: &'a [Option<u16>],
 }
 
 impl Bench<'_> {
@@ -35,7 +35,7 @@ impl Bench<'_> {
             let Some(field) = log.get(filled.log..to.log) else {
                 break;
             };
-            let end = chip.answer(field, *cut, tape, filled.tape);
+            let end = chip.answer(field, cut.map(usize::from), tape, filled.tape);
             // Job and tape are no longer than callrun's input.
             if end <= filled.tape || tape.len() < end || tape.len() - end < self.job.len() {
                 break;

@@ -9,11 +9,7 @@ const CUT: u8 = 0x1B;
 const REGISTERS: u8 = 0x1C;
 
 // Reads it into chip and cuts: where the calls begin, or else the field that does not fit.
-pub(crate) fn read(
-    input: &[u8],
-    chip: &mut Chip,
-    cuts: &mut [Option<usize>],
-) -> Result<usize, usize>
+pub(crate) fn read(input: &[u8], chip: &mut Chip, cuts: &mut [Option<u16>]) -> Result<usize, usize>
     ensures { IfOk result (λ at. (7 ≤ at) × (at ≤ length input.now)) }
 {
     let mut at = calls::CALLS_AT;
@@ -29,7 +25,7 @@ pub(crate) fn read(
 }
 
 // None where the value does not fit.
-fn take(tag: u8, value: &[u8], chip: &mut Chip, cuts: &mut [Option<usize>]) -> Option<()> {
+fn take(tag: u8, value: &[u8], chip: &mut Chip, cuts: &mut [Option<u16>]) -> Option<()> {
     match (tag, value) {
         // From a register on, up to FF.
         (REGISTERS, [first, bytes @ ..]) if !bytes.is_empty() => {
@@ -42,7 +38,7 @@ fn take(tag: u8, value: &[u8], chip: &mut Chip, cuts: &mut [Option<usize>]) -> O
         (CUT, &[high, low, more, less]) => {
             let transfer = numbers::be_u16(high, low) as usize;
             if let Some(cut) = cuts.get_mut(transfer.checked_sub(1)?) {
-                *cut = Some(numbers::be_u16(more, less) as usize);
+                *cut = Some(numbers::be_u16(more, less));
             }
         }
         _ => return None,

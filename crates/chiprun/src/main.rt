@@ -45,7 +45,7 @@ fn with_calls(
     input: &mut [u8],
     calls_at: usize,
     chip: Chip,
-    cuts: &[Option<usize>],
+    cuts: &[Option<u16>],
 ) -> io::Result<()>
     requires { (7 ≤ calls_at) × (calls_at ≤ length input.old) }
 {

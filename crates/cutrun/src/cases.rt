@@ -86,7 +86,7 @@ pub(crate) fn not_zero(check: bool) -> Start {
 }
 
 // Set up as the example before.
-fn set_up(check: bool, config: Config) -> Start {
+pub(crate) fn set_up(check: bool, config: Config) -> Start {
     let first = Start {
         chip: Chip::make(8, check),
         device: fresh(BQ769x0::BQ76940, 8, check),
@@ -100,7 +100,7 @@ pub(crate) fn again(check: bool) -> Start {
 }
 
 // In turn by 6 (no range has both steps), 7 and 8 after both reads of the calibration, and by 12 and 13 with no transfer.
-pub(crate) fn refused_inits(check: bool) -> [Start; 5] {
+pub(crate) fn refused_inits() -> [Config; 5] {
     [
         with(1000, 22, 100, 2800, 4200),
         with(1000, 50, 20, 1000, 4200),
@@ -108,12 +108,11 @@ pub(crate) fn refused_inits(check: bool) -> [Start; 5] {
         with(0, 50, 20, 2800, 4200),
         with(1000, 1000, 20, 2800, 4200),
     ]
-    .map(|config| set_up(check, config))
 }
 
 // ---- sets of inputs, on a chip that was set up, and has other inputs on and in 01 to 03 bits that are no input's
 
-fn with_others_on(x: u8, check: bool, call: Call) -> Start {
+pub(crate) fn with_others_on(x: u8, check: bool, call: Call) -> Start {
     let first = Start {
         chip: counted_down(check),
         device: fresh(x, 0x18, check),
@@ -141,13 +140,12 @@ pub(crate) fn second() -> Call {
 }
 
 // In turn by 22, 23 and 24, with no transfer.
-pub(crate) fn refused_sets(check: bool) -> [Start; 3] {
+pub(crate) fn refused_sets() -> [Call; 3] {
     [
         Call::Set(0b1_00000_00000, 9),
         Call::Set(0b11000, 9),
         Call::Set(0b00001_00001, 1),
     ]
-    .map(|call| with_others_on(BQ769x0::BQ76930, check, call))
 }
 
 // Input 6 is on, and input 1 is to be instead, with a limit of 1.

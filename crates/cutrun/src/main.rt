@@ -26,8 +26,8 @@ fn accepted(rt: &impl Print, check: bool) -> io::Result<()> {
 }
 
 fn refused(rt: &impl Print, check: bool) -> io::Result<()> {
-    for start in cases::refused_inits(check) {
-        case("BQ76940 refused", start).all(rt, cases::as_upper())?;
+    for config in cases::refused_inits() {
+        case("BQ76940 refused", cases::set_up(check, config)).all(rt, cases::as_upper())?;
     }
     Ok(())
 }
@@ -39,8 +39,8 @@ fn inits(rt: &impl Print) -> io::Result<()> {
     refused(rt, true)?;
     let plain = case("BQ76920", cases::all_zero(false));
     let checked = case("BQ76920", cases::all_zero(true));
-    twice::all(rt, plain)?;
-    twice::all(rt, checked)?;
+    twice::all(rt, &plain)?;
+    twice::all(rt, &checked)?;
     plain.shown(rt)?;
     checked.shown(rt)
 }
@@ -54,9 +54,10 @@ fn sets(rt: &impl Print, check: bool) -> io::Result<()> {
     ] {
         let set = case(name, cases::set(x, check));
         set.all(rt, second)?;
-        twice::all(rt, set)?;
+        twice::all(rt, &set)?;
     }
-    for start in cases::refused_sets(check) {
+    for call in cases::refused_sets() {
+        let start = cases::with_others_on(BQ769x0::BQ76930, check, call);
         case("a set refused", start).all(rt, second)?;
     }
     case("input 1 for 6", cases::six_then_one(check)).shown(rt)

@@ -80,7 +80,7 @@ impl After {
 }
 
 impl Case {
-    fn left(self, cut: Option<Place>) -> Left {
+    fn left(&self, cut: Option<Place>) -> Left {
         Left {
             before: self.start.chip,
             run: self.start.run(cut),
@@ -88,14 +88,14 @@ impl Case {
     }
 
     // What a cut leaves.
-    fn line(self, rt: &impl Print, place: Place) -> io::Result<()> {
+    fn line(&self, rt: &impl Print, place: Place) -> io::Result<()> {
         let left = self.left(Some(place));
         println!(rt; "{self}{place}{left}")
     }
 
     // Whether a call after a cut ends as with nothing cut before it; a line where it does not.
     fn is_same(
-        self,
+        &self,
         rt: &impl Print,
         after: After,
         whole: &Outcome,
@@ -110,7 +110,7 @@ impl Case {
         Ok(false)
     }
 
-    fn tally(self, rt: &impl Print, after: After) -> io::Result<Tally> {
+    fn tally(&self, rt: &impl Print, after: After) -> io::Result<Tally> {
         let whole = after.on(self.start);
         let mut tally = Tally::default();
         self.start.run(None).at_each_place(|place| {
@@ -121,7 +121,7 @@ impl Case {
     }
 
     // The start's line.
-    pub(crate) fn all(self, rt: &impl Print, other: Call) -> io::Result<()> {
+    pub(crate) fn all(&self, rt: &impl Print, other: Call) -> io::Result<()> {
         let call = self.start.call;
         let again = After {
             what: "again",
@@ -156,7 +156,7 @@ impl Case {
     }
 
     // A line for each place.
-    pub(crate) fn shown(self, rt: &impl Print) -> io::Result<()> {
+    pub(crate) fn shown(&self, rt: &impl Print) -> io::Result<()> {
         self.start
             .run(None)
             .at_each_place(|place| self.line(rt, place))

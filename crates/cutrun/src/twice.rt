@@ -20,7 +20,7 @@ fn is_same(
     Ok(same)
 }
 
-pub(crate) fn all(rt: &impl Print, case: Case) -> io::Result<()> {
+pub(crate) fn all(rt: &impl Print, case: &Case) -> io::Result<()> {
     let start = case.start;
     let whole = start.run(None);
     let mut tally = Tally::default();
