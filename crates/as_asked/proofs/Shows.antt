@@ -19,8 +19,12 @@ use Rattle.bq769x0.specs.Registers.{soundly}
 use Rattle.bq769x0.specs.declared.BQ769x0.{BQ769x0}
 use Rattle.runs.proofs.Calls.{promised}
 use Rattle.chip.proofs.Asks.{Asks, nothing, asks_if}
-use Rattle.as_asked.specs.Seen.{Shows}
+use Rattle.as_asked.specs.Seen.{StillLent, Shows}
 use Rattle.as_asked.proofs.Short.{all_short}
+
+-- a call that does its program
+pub still_lent : {A : Type 0} (p : Prog A) (bus : LentBus) (a : A) → does p bus a → StillLent bus
+still_lent p bus a h = record { tape_is = ap (λ (r : Ran _). r.bus.tape) h.0 ∙ (framed p (held bus.entry.now)).tape; log_is = h.1 }
 
 -- by the answer in what the program leaves
 pub shows : {A B : Type 0} (P : List Made → Answer B → Type 0) (f : A → Answer B) (p : Prog A) (bus : LentBus) (a : A) → does p bus a
@@ -34,8 +38,7 @@ shows {A} P f p bus a h short holds bytes =
       reads_back = ap (λ (r : Ran A). made_between b.tape r.bus.log b.at r.bus.at) promise ∙ shown_made p b (all_short short b);
       tape_used_is = ap (λ (r : Ran A). r.bus.at.tape) promise ∙ (framed p b).tape_used_is;
       log_used_is = ap (λ (r : Ran A). r.bus.at.log) promise ∙ (framed p b).log_used_is;
-      tape_is = ap (λ (r : Ran A). r.bus.tape) h.0 ∙ (framed p b).tape;
-      log_is = h.1;
+      still = still_lent p bus a h;
       holds =
           subst (P (history p b)) (sym (ap (λ (r : Ran A). f r.answer) promise))
           (on_history (λ x h. AllBytes h → P h (f x)) p holds b (all_bytes p b bytes));

@@ -26,6 +26,11 @@ module _ (link : Link) (seen : List Made) where
 abbrev pub transfers_made : LentBus → Option (List Made)
 transfers_made bus = made_between bus.entry.now.tape.now bus.exit.now.log.now bus.entry.now.at bus.exit.now.at
 
+-- after a call the tape is as it was lent, and the log is the caller's still
+pub record StillLent (bus : LentBus) : Type 0 where
+  pub tape_is : bus.exit.now.tape.now ≡ bus.entry.now.tape.now
+  pub log_is : bus.exit.now.log.ghost_name ≡ bus.entry.now.log.ghost_name
+
 -- a call on this bus which answered so: its log reads back as transfers, and of these, with what the tape said to them, P holds beside the answer
 pub record Shows {A : Type 0} (P : List Made → Answer A → Type 0) (bus : LentBus) (answer : Answer A) : Type 0 where
   pub seen : List Made
@@ -33,7 +38,5 @@ pub record Shows {A : Type 0} (P : List Made → Answer A → Type 0) (bus : Len
   -- both positions are past their fields, and no further
   pub tape_used_is : bus.exit.now.at.tape ≡ bus.entry.now.at.tape + length (tape_fields seen)
   pub log_used_is : bus.exit.now.at.log ≡ bus.entry.now.at.log + length (logged seen)
-  -- the tape is as it was lent, and the log is the caller's still
-  pub tape_is : bus.exit.now.tape.now ≡ bus.entry.now.tape.now
-  pub log_is : bus.exit.now.log.ghost_name ≡ bus.entry.now.log.ghost_name
+  pub still : StillLent bus
   pub holds : P seen answer

@@ -9,7 +9,7 @@ ghost use Rattle.check_byte.specs.CheckByte.{Bytes};
 ghost use Rattle.plan.specs.Plan.{as_init};
 ghost use Rattle.bq769x0.specs.Record.{leaves};
 ghost use Rattle.runs.specs.Calls.{lent_call};
-ghost use Rattle.as_asked.specs.Seen.{Shows};
+ghost use Rattle.as_asked.specs.Seen.{Shows, StillLent};
 ghost use Rattle.as_asked.specs.Init.{Demand2};
 ghost use Rattle.as_asked.specs.OnChip.{SetOnEveryChip};
 ghost use Rattle.as_asked.specs.Pack.{PackVoltage};
@@ -49,7 +49,7 @@ fn init_on_chip(
     config: Config,
     bus: &mut Bus,
 ) -> Result<CalculatedValues, Error>
-    ensures { SetOnEveryChip config device.old (lent_call bus (leaves (as_init result) device.new)) }
+    ensures { SetOnEveryChip config device.old (lent_call bus (leaves (as_init result) device.new)) × StillLent bus }
 {
     setup::init(device, config, bus)
 }
@@ -64,7 +64,7 @@ fn voltage(device: &BQ769x0, bus: &mut Bus) -> Result<MilliVolts, Error>
 }
 
 fn read_raw(link: Link, reg_address: u8, data: &mut [u8], bus: &mut Bus) -> Result<(), Error>
-    ensures { ExactlyRead link reg_address bus result «data».new }
+    ensures { ExactlyRead link reg_address bus result «data».new × StillLent bus }
 {
     raw::read_raw(link, reg_address, data, bus)
 }
