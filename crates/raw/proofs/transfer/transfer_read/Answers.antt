@@ -8,7 +8,7 @@ use Rattle.bus.specs.Transfers.{read, Bus, log_field, wanted, outcome, answered}
 use Rattle.bus.specs.Lent.{held}
 use Rattle.raw.specs.Inside.{Reply, Heard}
 use Rattle.raw.proofs.Fields.{put_front}
-use Rattle.raw.proofs.Moves.{Replied, length_bytes, room, read_stopped, read_by}
+use Rattle.raw.proofs.Moves.{Replied, room, read_stopped, read_by}
 use Rattle.raw.proofs.transfer.transfer_read.Goals as goal
 
 heard : (address reg count : ℕ) (b : Bus) {r : Reply} → Heard count (drop b.at.tape b.tape) (answered count 7 (length b.log) b.tape b.at) r
